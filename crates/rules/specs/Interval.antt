@@ -1,0 +1,254 @@
+-- Document 01, "One interval of one direction": rules 1 to 7, and the steps.
+use mathlib.Core.Bool.{Bool, true, false, not, cond, _&&_, _||_}
+use mathlib.Core.List.{List, [], _∷_}
+use Prim.Native.Nat.{ℕ, suc, _+_, _*_, _/_, _%_, min}
+use lib.Dec.{eqb}
+use lib.IntN.{ℤ, pos, _*ℤ_}
+use lib.ListN.{getD, replicate}
+use lib.Signed.{leZ, ltZ}
+use Rattle.signed.specs.Range.{minus, negative, eqZ}
+use Rattle.units.specs.declared.Cents.{Cents}
+use Rattle.units.specs.declared.Hundredths.{Hundredths}
+use Rattle.units.specs.Units.{cents, _+ᶜ_, lowerOfZero, hundredths, _+ʰ_}
+use Rattle.rules.specs.declared.Event.{Event}
+use Rattle.rules.specs.declared.Sums.{Sums}
+use Rattle.rules.specs.declared.Period.{Period}
+use Rattle.rules.specs.declared.Period.the-variants.{None, Held}
+use Rattle.rules.specs.declared.Managed.{Managed}
+use Rattle.rules.specs.declared.Counts.{Counts}
+use Rattle.rules.specs.declared.Direction.{Direction}
+use Rattle.rules.specs.Market.{inLoop}
+
+-- The numbers that the operator reviews.
+pub record Settings : Type 0 where
+  pub threshold : Cents
+  -- the edges between the four bands of net
+  pub edges : List Cents
+  -- by direction: the step in each band, and the offset
+  pub steps : List (List Hundredths)
+  pub offsets : List Hundredths
+
+-- Interval n = 6h+q, q from 0 to 5.
+abbrev pub halfHour : ℕ → ℕ
+halfHour n = n / 6
+
+abbrev pub place : ℕ → ℕ
+place n = n % 6
+
+-- A clamp of 2,000,000 is swamped.
+abbrev pub swamped : Hundredths
+swamped = hundredths (pos 2000000)
+
+abbrev pub isSwamped : Hundredths → Bool
+isSwamped clamp = eqZ (clamp .0) (swamped .0)
+
+abbrev pub noSums : Sums
+noSums = record { previous = cents (pos 0); current = cents (pos 0); net = cents (pos 0) }
+
+abbrev pub noCounts : Counts
+noCounts = record { unbound = 0; violated = 0 }
+
+-- Fresh: zeros, no period, clamp swamped, not suspended. (A fresh row has flag 1.)
+abbrev pub fresh : Direction
+fresh = record {
+  sums = noSums;
+  period = None;
+  clamp = swamped;
+  counts = noCounts;
+  suspended = false;
+  residue = cents (pos 0);
+  next = cents (pos 0);
+  blocked = false;
+  flag = true;
+  notice = 0;
+}
+
+-- 1. If q = 0, previous grows by current; current and net become 0.
+abbrev pub turned : Bool → Sums → Sums
+turned true s = record { previous = s .previous +ᶜ s .current; current = cents (pos 0); net = cents (pos 0) }
+turned false s = s
+
+abbrev pub rule1 : ℕ → Sums → Sums
+rule1 n s = turned (eqb (place n) 0) s
+
+-- 2. Loop flag: 0 for directions 2-7 if the loop is operating and the residues of directions 2-7 sum to zero or more; else 1.
+abbrev pub loopSum : (ℕ → Cents) → Cents
+loopSum residue = residue 2 +ᶜ residue 3 +ᶜ residue 4 +ᶜ residue 5 +ᶜ residue 6 +ᶜ residue 7
+
+unfoldable pub flagOf : Bool → Cents → ℕ → Bool
+flagOf operating sum d = not (inLoop d && (operating && not (negative (sum .0))))
+
+-- The places at which a current of 0 clears what came before: every one.
+unfoldable pub clearsAt : ℕ → Bool
+clearsAt q = true
+
+-- At 0, previous, current and net become 0. At 1, current grows by the lower of r and 0, net by r; if current is then 0, previous becomes 0.
+abbrev pub grown : Cents → Sums → Sums
+grown r s = record { previous = s .previous; current = s .current +ᶜ lowerOfZero r; net = s .net +ᶜ r }
+
+abbrev pub cleared : Bool → Sums → Sums
+cleared true s = record { previous = cents (pos 0); current = s .current; net = s .net }
+cleared false s = s
+
+abbrev pub settled : Bool → Sums → Sums
+settled clears s = cleared (eqZ (s .current .0) (pos 0) && clears) s
+
+abbrev pub rule2 : Bool → Bool → Cents → Sums → Sums
+rule2 false clears r s = noSums
+rule2 true clears r s = settled clears (grown r s)
+
+-- Amount = previous + current.
+abbrev pub amount : Sums → Cents
+amount s = s .previous +ᶜ s .current
+
+-- 3. Next is the lower of the pre-dispatch residue and 0 if q = 5, pre-dispatch is present and the flag is 1; else 0.
+unfoldable pub nextOf : Bool → ℕ → Bool → Cents → Cents
+nextOf flag n present ahead = cond (flag && (eqb (place n) 5 && present)) (lowerOfZero ahead) (cents (pos 0))
+
+-- Reached: amount + next is -10,000,000 or less, and no review.
+abbrev pub atThreshold : Settings → Cents → Bool
+atThreshold set total = leZ (total .0) (set .threshold .0)
+
+abbrev pub reached : Settings → Event → Cents → Bool
+reached set e sum = atThreshold set (sum +ᶜ e .next) && not (e .review)
+
+-- 4. No period and reached: first = n+1, last = 6h+11, not extended, notice 1.
+abbrev pub managed : Period → ℕ → Managed
+managed p notice = record { period = p; notice = notice }
+
+abbrev pub started : ℕ → Bool → Managed
+started n true = managed (Held (suc n) (6 * halfHour n + 11) false) 1
+started n false = managed None 0
+
+-- In a period with flag 0: last becomes the lower of last and 6h+5. Otherwise in a period, reached, and either q = 5 or
+-- (last = 6h+5 and not extended): last grows by 6, now extended.
+abbrev pub extends : ℕ → ℕ → Bool → Bool
+extends n last extended = eqb (place n) 5 || (eqb last (6 * halfHour n + 5) && not extended)
+
+abbrev pub kept : ℕ → Bool → Bool → ℕ → ℕ → Bool → Period
+kept n false reach first last extended = Held first (min last (6 * halfHour n + 5)) extended
+kept n true false first last extended = Held first last extended
+kept n true true first last extended = cond (extends n last extended) (Held first (last + 6) true) (Held first last extended)
+
+-- A period held before this interval and now with last = n ends: notice 2. Else notice 0.
+abbrev pub ended : ℕ → Period → Managed
+ended n None = managed None 0
+ended n (Held first last extended) = cond (eqb last n) (managed None 2) (managed (Held first last extended) 0)
+
+abbrev pub rule4 : ℕ → Bool → Bool → Period → Managed
+rule4 n flag reach None = started n reach
+rule4 n flag reach (Held first last extended) = ended n (kept n flag reach first last extended)
+
+-- 5. In a period held before, clamp for n not swamped, current 0 and status unbound: unbound count grows by 1, at most 3; else 0.
+-- Likewise violated. With no period left after 4 both are 0.
+abbrev pub held : Period → Bool
+held None = false
+held (Held first last extended) = true
+
+abbrev pub counted : Bool → ℕ → ℕ
+counted true count = min 3 (suc count)
+counted false count = 0
+
+abbrev pub statusUnbound : ℕ
+statusUnbound = 0
+
+abbrev pub statusViolated : ℕ
+statusViolated = 2
+
+abbrev pub rule5 : Bool → ℕ → Hundredths → Cents → Period → Counts → Counts
+rule5 before status clamp current after counts =
+    let quiet = held after && (before && (not (isSwamped clamp) && eqZ (current .0) (pos 0))) in
+    record {
+      unbound = counted (quiet && eqb status statusUnbound) (counts .unbound);
+      violated = counted (quiet && eqb status statusViolated) (counts .violated);
+    }
+
+-- 6. Suspended: no, if there is no period or it began now; no, if net is below -100,000; yes, if a count is 3; else as it was.
+abbrev pub suspensionEnds : Cents
+suspensionEnds = cents (minus 100000)
+
+abbrev pub rule6 : Bool → Period → Cents → Counts → Bool → Bool
+rule6 before after net counts was =
+    cond (not (held after && before)) false (
+    cond (ltZ (net .0) (suspensionEnds .0)) false (
+    cond (eqb (counts .unbound) 3 || eqb (counts .violated) 3) true was))
+
+-- Steps for net below -5000; -5000 to below -1000; -1000 to below 1000; 1000 and up (in dollars).
+abbrev pub belowEdge : Settings → ℕ → Cents → Bool
+belowEdge set i net = ltZ (net .0) (getD (set .edges) i (cents (pos 0)) .0)
+
+abbrev pub band : Settings → Cents → ℕ
+band set net = cond (belowEdge set 0 net) 0 (cond (belowEdge set 1 net) 1 (cond (belowEdge set 2 net) 2 3))
+
+abbrev pub stepFor : Settings → ℕ → ℕ → Hundredths
+stepFor set d band = getD (getD (set .steps) d []) band (hundredths (pos 0))
+
+abbrev pub offsetFor : Settings → ℕ → Hundredths
+offsetFor set d = getD (set .offsets) d (hundredths (pos 0))
+
+-- 7. Clamp for n+1: swamped if no period, suspended or blocked. Else base is the clamp for n, or, if that was swamped, the corridor's
+-- target sum (negated for To_From); clamp = base + step, at most 1,000,000, at least the offset, 2,000.
+abbrev pub highestClamp : Hundredths
+highestClamp = hundredths (pos 1000000)
+
+abbrev pub lower : Hundredths → Hundredths → Hundredths
+lower a b = cond (ltZ (a .0) (b .0)) a b
+
+abbrev pub higher : Hundredths → Hundredths → Hundredths
+higher a b = cond (ltZ (a .0) (b .0)) b a
+
+abbrev pub clampFrom : Hundredths → Hundredths → Hundredths → Hundredths
+clampFrom base step offset = higher offset (lower (base +ʰ step) highestClamp)
+
+abbrev pub rule7 : Settings → ℕ → Bool → Hundredths → Period → Bool → Cents → Hundredths → Hundredths
+rule7 set d blocked target period suspended net clamp =
+    cond (not (held period) || (suspended || blocked)) swamped (
+    clampFrom (cond (isSwamped clamp) target clamp) (stepFor set d (band set net)) (offsetFor set d))
+
+-- One interval of direction d: the seven rules in turn.
+unfoldable pub stepOf : Settings → ℕ → Event → Direction → Direction
+stepOf set d e s =
+    let sums = rule2 (e .flag) (clearsAt (place (e .n))) (e .residue) (rule1 (e .n) (s .sums)) in
+    let after = rule4 (e .n) (e .flag) (reached set e (amount sums)) (s .period) in
+    let before = held (s .period) in
+    let counts = rule5 before (e .status) (s .clamp) (sums .current) (after .period) (s .counts) in
+    let suspended = rule6 before (after .period) (sums .net) counts (s .suspended) in
+    record {
+      sums = sums;
+      period = after .period;
+      clamp = rule7 set d (e .blocked) (e .target) (after .period) suspended (sums .net) (s .clamp);
+      counts = counts;
+      suspended = suspended;
+      residue = e .residue;
+      next = e .next;
+      blocked = e .blocked;
+      flag = e .flag;
+      notice = after .notice;
+    }
+
+-- Document 01's numbers: the threshold, the bands of net, the steps in MW (000, table 2) and the offset.
+abbrev pub megawatts : ℤ → Hundredths
+megawatts z = hundredths (pos 100 *ℤ z)
+
+abbrev pub dollars : ℤ → Cents
+dollars z = cents (pos 100 *ℤ z)
+
+abbrev pub four : ℤ → ℤ → ℤ → ℤ → List Hundredths
+four a b c d = megawatts a ∷ megawatts b ∷ megawatts c ∷ megawatts d ∷ []
+
+abbrev pub settings : Settings
+settings = record {
+  threshold = cents (minus 10000000);
+  edges = dollars (minus 5000) ∷ dollars (minus 1000) ∷ dollars (pos 1000) ∷ [];
+  steps =
+      four (minus 100) (minus 50) (pos 0) (pos 30)
+      ∷ four (minus 100) (minus 50) (pos 0) (pos 30)
+      ∷ four (minus 100) (minus 50) (pos 0) (pos 30)
+      ∷ four (minus 100) (minus 50) (pos 0) (pos 30)
+      ∷ four (minus 50) (minus 30) (pos 0) (pos 30)
+      ∷ four (minus 30) (minus 25) (pos 0) (pos 25)
+      ∷ four (minus 75) (minus 40) (pos 0) (pos 30)
+      ∷ four (minus 75) (minus 40) (pos 0) (pos 30)
+      ∷ [];
+  offsets = replicate 8 (hundredths (pos 2000));
+}

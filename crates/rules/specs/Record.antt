@@ -1,0 +1,136 @@
+-- Document 01, "Record, opening, row, journal": the 168 bytes of a record, and what they say of a direction.
+use mathlib.Core.Bool.{Bool, cond, _&&_, _||_}
+use mathlib.Core.List.{List, [], _∷_}
+use Prim.Native.Nat.{ℕ, _+_, _*_, _-_, _/_, _%_, _^_}
+use lib.Dec.{eqb, ltb}
+use lib.IntN.{ℤ, pos}
+use lib.ListN.{getD}
+use Rattle.signed.specs.Range.{minus}
+use Rattle.units.specs.declared.Cents.{Cents}
+use Rattle.units.specs.declared.Hundredths.{Hundredths}
+use Rattle.units.specs.Units.{cents, hundredths, -ʰ_}
+use Rattle.rules.specs.declared.Line.{Line}
+use Rattle.rules.specs.declared.Event.{Event}
+use Rattle.rules.specs.Market.{corridorOf, reverse}
+use Rattle.rules.specs.Residue.{intervalLine, aheadLine, overLines, residueOf}
+use Rattle.rules.specs.Interval.{loopSum, flagOf, nextOf}
+
+-- A byte; little-endian, a u32 and an i32 (two's complement).
+abbrev pub byteAt : List ℕ → ℕ → ℕ
+byteAt b at = getD b at 0
+
+unfoldable pub u32At : List ℕ → ℕ → ℕ
+u32At b at = byteAt b at + 256 * byteAt b (at + 1) + 65536 * byteAt b (at + 2) + 16777216 * byteAt b (at + 3)
+
+abbrev pub twos : ℕ → ℤ
+twos u = cond (ltb u 2147483648) (pos u) (minus (4294967296 - u))
+
+unfoldable pub i32At : List ℕ → ℕ → ℤ
+i32At b at = twos (u32At b at)
+
+abbrev pub bit : ℕ → ℕ → Bool
+bit k x = eqb (x / 2 ^ k % 2) 1
+
+-- n (u32);
+abbrev pub number : List ℕ → ℕ
+number b = u32At b 0
+
+-- flags byte (bit 0 review, bit 1 loop operating, bit 2 pre-dispatch present);
+abbrev pub flags : List ℕ → ℕ
+flags b = byteAt b 4
+
+abbrev pub reviewed : List ℕ → Bool
+reviewed b = bit 0 (flags b)
+
+abbrev pub operating : List ℕ → Bool
+operating b = bit 1 (flags b)
+
+abbrev pub present : List ℕ → Bool
+present b = bit 2 (flags b)
+
+-- 8 status bytes by direction (0 unbound, 1 bound, 2 violated, plus 4 if blocked);
+abbrev pub statusByte : List ℕ → ℕ → ℕ
+statusByte b d = byteAt b (5 + d)
+
+abbrev pub status : List ℕ → ℕ → ℕ
+status b d = statusByte b d % 4
+
+abbrev pub blocked : List ℕ → ℕ → Bool
+blocked b d = bit 2 (statusByte b d)
+
+-- 3 zero bytes;
+abbrev pub zeroBytes : List ℕ → Bool
+zeroBytes b = eqb (byteAt b 13) 0 && (eqb (byteAt b 14) 0 && eqb (byteAt b 15) 0)
+
+-- 4 prices; 6 × (metered, target, losses);
+abbrev pub price : List ℕ → ℕ → Cents
+price b region = cents (i32At b (16 + 4 * region))
+
+abbrev pub metered : List ℕ → ℕ → Hundredths
+metered b i = hundredths (i32At b (32 + 12 * i))
+
+abbrev pub target : List ℕ → ℕ → Hundredths
+target b i = hundredths (i32At b (36 + 12 * i))
+
+abbrev pub losses : List ℕ → ℕ → Hundredths
+losses b i = hundredths (i32At b (40 + 12 * i))
+
+-- pre-dispatch: 4 prices, 6 × (flow, losses). All i32 from byte 16 on.
+abbrev pub aheadPrice : List ℕ → ℕ → Cents
+aheadPrice b region = cents (i32At b (104 + 4 * region))
+
+abbrev pub aheadFlow : List ℕ → ℕ → Hundredths
+aheadFlow b i = hundredths (i32At b (120 + 8 * i))
+
+abbrev pub aheadLosses : List ℕ → ℕ → Hundredths
+aheadLosses b i = hundredths (i32At b (124 + 8 * i))
+
+-- The four regions' prices and the six physical interconnectors' a and b: of the interval, and of the pre-dispatch half-hour.
+abbrev pub ofRegions : (ℕ → Cents) → List Cents
+ofRegions f = f 0 ∷ f 1 ∷ f 2 ∷ f 3 ∷ []
+
+abbrev pub ofLines : (ℕ → Line) → List Line
+ofLines f = f 0 ∷ f 1 ∷ f 2 ∷ f 3 ∷ f 4 ∷ f 5 ∷ []
+
+unfoldable pub prices : List ℕ → List Cents
+prices b = ofRegions (price b)
+
+unfoldable pub lines : List ℕ → List Line
+lines b = ofLines (λ i. intervalLine (metered b i) (target b i) (losses b i))
+
+unfoldable pub aheadPrices : List ℕ → List Cents
+aheadPrices b = ofRegions (aheadPrice b)
+
+unfoldable pub aheadLines : List ℕ → List Line
+aheadLines b = ofLines (λ i. aheadLine (aheadFlow b i) (aheadLosses b i))
+
+-- What a record says of direction d, under the shares of the opening: the interval's residue, the pre-dispatch residue, the loop flag, next,
+abbrev pub residue : List ℕ → List ℕ → ℕ → Cents
+residue shares b d = residueOf (prices b) shares (lines b) d
+
+abbrev pub aheadResidue : List ℕ → List ℕ → ℕ → Cents
+aheadResidue shares b d = residueOf (aheadPrices b) shares (aheadLines b) d
+
+abbrev pub flag : List ℕ → List ℕ → ℕ → Bool
+flag shares b d = flagOf (operating b) (loopSum (residue shares b)) d
+
+abbrev pub next : List ℕ → List ℕ → ℕ → Cents
+next shares b d = nextOf (flag shares b d) (number b) (present b) (aheadResidue shares b d)
+
+-- and the corridor's target sum (negated for To_From).
+abbrev pub targetSum : List ℕ → ℕ → Hundredths
+targetSum b d =
+    let sum = hundredths (overLines (corridorOf d) (λ i. target b i .0)) in
+    cond (reverse d) (-ʰ sum) sum
+
+unfoldable pub eventOf : List ℕ → ℕ → List ℕ → Event
+eventOf shares d b = record {
+  n = number b;
+  flag = flag shares b d;
+  residue = residue shares b d;
+  next = next shares b d;
+  review = reviewed b;
+  status = status b d;
+  blocked = blocked b d;
+  target = targetSum b d;
+}

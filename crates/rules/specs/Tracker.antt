@@ -1,0 +1,133 @@
+-- Document 01, "Record, opening, row": what the three calls return for every input.
+use mathlib.Core.Bool.{Bool, true, false, not, cond}
+use mathlib.Core.List.{List, [], _∷_, foldl}
+use Prim.Native.Nat.{ℕ, zero, suc}
+use lib.IntN.{pos}
+use lib.ListN.{getD, replicate}
+use Rattle.units.specs.declared.Cents.{Cents}
+use Rattle.units.specs.Units.{cents, hundredths}
+use Rattle.rules.specs.declared.Period.the-variants.{None}
+use Rattle.rules.specs.declared.Direction.{Direction}
+use Rattle.rules.specs.declared.Tracker.{Tracker}
+use Rattle.rules.specs.declared.Row.{Row}
+use Rattle.rules.specs.declared.Outcome.{Outcome}
+use Rattle.rules.specs.declared.Outcome.the-variants.{Accepted, Refused}
+use Rattle.rules.specs.declared.Answer.{Answer}
+use Rattle.rules.specs.declared.RowAnswer.{RowAnswer}
+use Rattle.rules.specs.Interval.{noSums, noCounts, fresh, settings, stepOf, amount, isSwamped}
+use Rattle.rules.specs.Record.{number, eventOf}
+use Rattle.rules.specs.Refusal.{isAccepted, openOutcome, intervalOutcome, rowOutcome}
+
+-- The tracker, field by field.
+abbrev pub tracker : List ℕ → ℕ → ℕ → List Direction → Tracker
+tracker shares shown awaited directions = record { shares = shares; shown = shown; awaited = awaited; directions = directions }
+
+-- An opening gives the first n and six shares.
+pub record Opening : Type 0 where
+  pub first : ℕ
+  pub shares : List ℕ
+
+abbrev pub opens : Opening → Bool
+opens o = isAccepted (openOutcome (o .first) (o .shares))
+
+-- The tracker beside a refusal's number is a fresh one at first n 0 with all shares 0.
+abbrev pub firstOf : Opening → ℕ
+firstOf o = cond (opens o) (o .first) 0
+
+abbrev pub sharesOf : Opening → List ℕ
+sharesOf o = cond (opens o) (o .shares) (replicate 6 0)
+
+abbrev pub opened : Opening → Tracker
+opened o = tracker (sharesOf o) (firstOf o) (firstOf o) (replicate 8 fresh)
+
+unfoldable pub openOf : Opening → Answer
+openOf o = record { outcome = openOutcome (o .first) (o .shares); tracker = opened o }
+
+-- The states of the directions from d on, each after one interval more.
+unfoldable pub stepFrom : List ℕ → List ℕ → ℕ → List Direction → List Direction
+stepFrom shares b d [] = []
+stepFrom shares b d (s ∷ ss) = stepOf settings d (eventOf shares d b) s ∷ stepFrom shares b (suc d) ss
+
+unfoldable pub advanced : Tracker → List ℕ → Tracker
+advanced t b = tracker (t .shares) (number b) (suc (number b)) (stepFrom (t .shares) b 0 (t .directions))
+
+-- An interval call. A refusal returns only its number, beside the tracker as it was.
+abbrev pub accepts : ℕ → List ℕ → Bool
+accepts awaited b = isAccepted (intervalOutcome awaited b)
+
+unfoldable pub intervalOf : Tracker → List ℕ → Answer
+intervalOf t b = record { outcome = intervalOutcome (t .awaited) b; tracker = cond (accepts (t .awaited) b) (advanced t b) t }
+
+-- A row shows, of the latest accepted interval: n, direction, r, applies (1 if the clamp for n+1 is not swamped), previous, current,
+-- amount, next, net, period, both counts, blocked, flag, the clamp for n+1, notice.
+abbrev pub row : ℕ → ℕ → Cents → Cents → Bool → Bool → Direction → Row
+row n d r next blocked flag s = record {
+  n = n;
+  direction = d;
+  residue = r;
+  applies = not (isSwamped (s .clamp));
+  previous = s .sums .previous;
+  current = s .sums .current;
+  amount = amount (s .sums);
+  next = next;
+  net = s .sums .net;
+  period = s .period;
+  counts = s .counts;
+  blocked = blocked;
+  flag = flag;
+  clamp = s .clamp;
+  notice = s .notice;
+}
+
+-- A direction that is not there.
+abbrev pub blank : Direction
+blank = record {
+  sums = noSums;
+  period = None;
+  clamp = hundredths (pos 0);
+  counts = noCounts;
+  suspended = false;
+  residue = cents (pos 0);
+  next = cents (pos 0);
+  blocked = false;
+  flag = false;
+  notice = 0;
+}
+
+abbrev pub directionOf : Tracker → ℕ → Direction
+directionOf t d = getD (t .directions) d blank
+
+unfoldable pub rowOf : Tracker → ℕ → Row
+rowOf t d =
+    let s = directionOf t d in
+    row (t .shown) d (s .residue) (s .next) (s .blocked) (s .flag) s
+
+-- Row: 17 direction above 7; the row is all zeros, period none.
+abbrev pub noRow : Row
+noRow = record {
+  n = 0;
+  direction = 0;
+  residue = cents (pos 0);
+  applies = false;
+  previous = cents (pos 0);
+  current = cents (pos 0);
+  amount = cents (pos 0);
+  next = cents (pos 0);
+  net = cents (pos 0);
+  period = None;
+  counts = noCounts;
+  blocked = false;
+  flag = false;
+  clamp = hundredths (pos 0);
+  notice = 0;
+}
+
+unfoldable pub rowAnswer : Tracker → ℕ → RowAnswer
+rowAnswer t d = record { outcome = rowOutcome d; row = cond (isAccepted (rowOutcome d)) (rowOf t d) noRow }
+
+-- A list of interval calls from an opening, each on the tracker that the one before it left.
+abbrev pub after : Tracker → List ℕ → Tracker
+after t b = intervalOf t b .tracker
+
+unfoldable pub run : Opening → List (List ℕ) → Tracker
+run o calls = foldl after (openOf o .tracker) calls

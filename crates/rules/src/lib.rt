@@ -1,0 +1,117 @@
+// The types of the tracker. Their meaning is in specs/, in document 01's order; there is no code here.
+use units::Cents;
+use units::Hundredths;
+
+// A corridor: the regions that it runs from and to, and its physical interconnectors, `lines` of them from number `first` on.
+pub struct Corridor {
+    pub from: usize,
+    pub to: usize,
+    pub first: usize,
+    pub lines: usize,
+}
+
+// Document 01's a and b of a physical interconnector.
+pub struct Line {
+    pub a: Hundredths,
+    pub b: Hundredths,
+}
+
+// A corridor's residue, and whether its flow is To_From.
+pub struct CorridorResidue {
+    pub residue: Cents,
+    pub reverse: bool,
+}
+
+// What an accepted record says of one direction. The status is 0 unbound, 1 bound, 2 violated; the target is the corridor's
+// target sum in the sense of the direction; a loop flag of 1 is true.
+pub struct Event {
+    pub n: u32,
+    pub flag: bool,
+    pub residue: Cents,
+    pub next: Cents,
+    pub review: bool,
+    pub status: u8,
+    pub blocked: bool,
+    pub target: Hundredths,
+}
+
+pub struct Sums {
+    pub previous: Cents,
+    pub current: Cents,
+    pub net: Cents,
+}
+
+// A management period: none, or first, last and whether extended.
+pub enum Period {
+    None,
+    Held(u32, u32, bool),
+}
+
+// What rule 4 leaves: the period, and the notice (1 start, 2 end, 0 none).
+pub struct Managed {
+    pub period: Period,
+    pub notice: u8,
+}
+
+pub struct Counts {
+    pub unbound: u8,
+    pub violated: u8,
+}
+
+// One direction's state: what the rules keep, and what its row shows of the latest accepted interval.
+pub struct Direction {
+    pub sums: Sums,
+    pub period: Period,
+    pub clamp: Hundredths,
+    pub counts: Counts,
+    pub suspended: bool,
+    pub residue: Cents,
+    pub next: Cents,
+    pub blocked: bool,
+    pub flag: bool,
+    pub notice: u8,
+}
+
+// The tracker: the shares of its opening, the number that its rows show, the awaited number, and the eight directions.
+pub struct Tracker {
+    pub shares: [u16; 6],
+    pub shown: u32,
+    pub awaited: u32,
+    pub directions: [Direction; 8],
+}
+
+pub struct Row {
+    pub n: u32,
+    pub direction: usize,
+    pub residue: Cents,
+    pub applies: bool,
+    pub previous: Cents,
+    pub current: Cents,
+    pub amount: Cents,
+    pub next: Cents,
+    pub net: Cents,
+    pub period: Period,
+    pub counts: Counts,
+    pub blocked: bool,
+    pub flag: bool,
+    pub clamp: Hundredths,
+    pub notice: u8,
+}
+
+// How a call ends: accepted, or refused under document 01's number.
+pub enum Outcome {
+    Accepted,
+    Refused(u8),
+}
+
+// The answer of an opening and of an interval call: the tracker to go on with stands beside the outcome.
+pub struct Answer {
+    pub outcome: Outcome,
+    pub tracker: Tracker,
+}
+
+// The answer of a row call.
+pub struct RowAnswer {
+    pub outcome: Outcome,
+    pub row: Row,
+}

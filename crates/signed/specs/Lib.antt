@@ -1,0 +1,2 @@
+-- Words for signed numbers that definitions and contracts use.
+pub mod Range

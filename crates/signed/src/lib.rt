@@ -1,0 +1,1 @@
+// Laws on signed numbers, for the proofs of other crates. No code.

@@ -1,0 +1,2 @@
+-- Sums of money, megawatts and grains, each in its own type.
+pub mod Units
