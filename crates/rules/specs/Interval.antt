@@ -125,15 +125,26 @@ started n false = managed None 0
 abbrev pub extends : ℕ → ℕ → Bool → Bool
 extends n last extended = eqb (place n) 5 || (eqb last (6 * halfHour n + 5) && not extended)
 
+abbrev pub stretched : Bool → ℕ → ℕ → Bool → Period
+stretched true first last extended = Held first (last + 6) true
+stretched false first last extended = Held first last extended
+
 abbrev pub kept : ℕ → Bool → Bool → ℕ → ℕ → Bool → Period
 kept n false reach first last extended = Held first (min last (6 * halfHour n + 5)) extended
 kept n true false first last extended = Held first last extended
-kept n true true first last extended = cond (extends n last extended) (Held first (last + 6) true) (Held first last extended)
+kept n true true first last extended = stretched (extends n last extended) first last extended
 
 -- A period held before this interval and now with last = n ends: notice 2. Else notice 0.
+abbrev pub isOver : ℕ → ℕ → Bool
+isOver n last = eqb last n
+
+abbrev pub closed : Bool → Period → Managed
+closed true p = managed None 2
+closed false p = managed p 0
+
 abbrev pub ended : ℕ → Period → Managed
 ended n None = managed None 0
-ended n (Held first last extended) = cond (eqb last n) (managed None 2) (managed (Held first last extended) 0)
+ended n (Held first last extended) = closed (isOver n last) (Held first last extended)
 
 abbrev pub rule4 : ℕ → Bool → Bool → Period → Managed
 rule4 n flag reach None = started n reach

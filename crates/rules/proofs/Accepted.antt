@@ -1,0 +1,109 @@
+-- A call is accepted exactly if none of its conditions is met: for any list of conditions, and named for an interval and for an opening.
+-- Assumes nothing.
+use mathlib.Core.Path.{_≡_, refl, sym, ap, subst, _∙_}
+use mathlib.Core.Bool.{Bool, true, false, not, cond, _&&_, _||_, false≢true}
+use mathlib.Core.List.{List, [], _∷_}
+use mathlib.Core.Logic.{_↔_}
+use Prim.Native.Nat.{ℕ, zero, suc, _≤_, _<_}
+use native.Mathlib.Omega.{arith}
+use borrow.Author.Tests.{eqb-true, eq-eqb, ltb-false, le-ltb, leb-true, le-leb, not-false}
+use lib.Dec.{eqb, ltb, leb}
+use lib.ListN.{length, getD}
+use Rattle.rules.specs.declared.Outcome.{Outcome}
+use Rattle.rules.specs.declared.Outcome.the-variants.{Accepted, Refused}
+use Rattle.rules.specs.Interval.{place}
+use Rattle.rules.specs.Record.{number}
+use Rattle.rules.specs.Refusal.{Condition, _⇒_, judged, isAccepted, each, lastNumber, badFlags, badStatus, badPrice, badFlow, badAhead, intervalConditions, intervalOutcome, openOutcome}
+use Rattle.rules.specs.Tracker.{Opening, opens, accepts}
+use Rattle.rules.proofs.Scan.{both-false, each-at, each-by}
+
+-- No condition of the list is met.
+abbrev pub NoneMet : List Condition → Type 0
+NoneMet [] = Unit
+NoneMet (c ∷ cs) = (c .met ≡ false) × NoneMet cs
+
+-- The first condition met, as listed, gives the number; without one the call is accepted.
+pub accepted-iff : (cs : List Condition) → (judged cs ≡ Accepted) ↔ NoneMet cs
+accepted-iff [] = (λ _. tt, λ _. refl)
+accepted-iff (c ∷ cs) = go (c .met) refl (accepted-iff cs)
+  where
+    go : (m : Bool) → c .met ≡ m → (judged cs ≡ Accepted) ↔ NoneMet cs → (cond m (Refused (c .number)) (judged cs) ≡ Accepted) ↔ ((m ≡ false) × NoneMet cs)
+    go true k rest = (λ e. absurd (false≢true (ap isAccepted e)), λ n. absurd (false≢true (sym (n .0))))
+    go false k rest = (λ e. (refl, rest .0 e), λ n. rest .1 (n .1))
+
+is-accepted : (o : Outcome) → isAccepted o ≡ true → o ≡ Accepted
+is-accepted Accepted e = refl
+is-accepted (Refused k) e = absurd (false≢true e)
+
+none-met : (cs : List Condition) → isAccepted (judged cs) ≡ true → NoneMet cs
+none-met cs e = accepted-iff cs .0 (is-accepted (judged cs) e)
+
+none-met-by : (cs : List Condition) → NoneMet cs → isAccepted (judged cs) ≡ true
+none-met-by cs n = ap isAccepted (accepted-iff cs .1 n)
+
+-- What it takes for an interval record to be accepted: none of the conditions 1 to 8.
+pub record Sound (awaited : ℕ) (b : List ℕ) : Type 0 where
+  pub whole : length b ≡ 168
+  pub in-range : number b ≤ 1051199
+  pub in-turn : number b ≡ awaited
+  pub flags : badFlags b ≡ false
+  pub statuses : badStatus b ≡ false
+  pub prices : badPrice b ≡ false
+  pub flows : badFlow b ≡ false
+  pub ahead : badAhead b ≡ false
+
+pub accepted-is : (awaited : ℕ) (b : List ℕ) → accepts awaited b ≡ true → Sound awaited b
+unfolding intervalOutcome intervalConditions
+accepted-is awaited b e =
+    let none = none-met (intervalConditions awaited b) e in
+    record {
+      whole = eqb-true (length b) 168 (not-false (eqb (length b) 168) (none .0));
+      in-range = ltb-false lastNumber (number b) (none .1 .0);
+      in-turn = eqb-true (number b) awaited (not-false (eqb (number b) awaited) (none .1 .1 .0));
+      flags = none .1 .1 .1 .0;
+      statuses = none .1 .1 .1 .1 .0;
+      prices = none .1 .1 .1 .1 .1 .0;
+      flows = none .1 .1 .1 .1 .1 .1 .0;
+      ahead = none .1 .1 .1 .1 .1 .1 .1 .0;
+    }
+
+pub accepted-by : (awaited : ℕ) (b : List ℕ) → Sound awaited b → accepts awaited b ≡ true
+unfolding intervalOutcome intervalConditions
+accepted-by awaited b s = none-met-by (intervalConditions awaited b) (ap not (eq-eqb (length b) 168 (s .whole)), (le-ltb lastNumber (number b) (s .in-range), (ap not (eq-eqb (number b) awaited (s .in-turn)), (s .flags, (s .statuses, (s .prices, (s .flows, (s .ahead, tt))))))))
+
+-- What it takes for an opening to be accepted: neither 9 nor 10.
+pub record SoundOpening (o : Opening) : Type 0 where
+  pub in-range : o .first ≤ 1051199
+  pub half-hour : place (o .first) ≡ 0
+  pub shares : (i : ℕ) → i < 6 → getD (o .shares) i 0 ≤ 1000
+
+module _ (o : Opening) where
+  abbrev late : Bool
+  late = ltb lastNumber (o .first)
+
+  abbrev astride : Bool
+  astride = not (eqb (place (o .first)) 0)
+
+  abbrev share-ok : ℕ → Bool
+  share-ok i = leb (getD (o .shares) i 0) 1000
+
+  abbrev conditions : List Condition
+  conditions = (late || astride) ⇒ 9 ∷ not (each 6 share-ok) ⇒ 10 ∷ []
+
+  pub opened-is : opens o ≡ true → SoundOpening o
+  unfolding openOutcome
+  opened-is e =
+      let none = none-met conditions e in
+      let nine = both-false late astride (none .0) in
+      record {
+        in-range = ltb-false lastNumber (o .first) (nine .0);
+        half-hour = eqb-true (place (o .first)) 0 (not-false (eqb (place (o .first)) 0) (nine .1));
+        shares = λ i l. leb-true (getD (o .shares) i 0) 1000 (each-at share-ok 6 (not-false (each 6 share-ok) (none .1 .0)) i l);
+      }
+
+  pub opened-by : SoundOpening o → opens o ≡ true
+  unfolding openOutcome
+  opened-by s = none-met-by conditions (nine, (ap not (each-by share-ok 6 (λ i l. le-leb (getD (o .shares) i 0) 1000 (s .shares i l))), tt))
+    where
+      nine : (late || astride) ≡ false
+      nine = simp (le-ltb lastNumber (o .first) (s .in-range), eq-eqb (place (o .first)) 0 (s .half-hour))

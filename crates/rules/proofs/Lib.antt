@@ -1,0 +1,10 @@
+-- What follows from the definitions.
+pub mod Scan
+pub mod Accepted
+pub mod Sum
+pub mod Span
+pub mod Turn
+pub mod OneDirection
+pub mod Replay
+pub mod Demand
+pub mod Came

@@ -1,0 +1,92 @@
+-- The claim of one direction's history: what the rules make of a list of accepted intervals, by recursion on that list, the latest first.
+-- It holds at every settings whose threshold is below zero.
+-- Assumes nothing.
+use mathlib.Core.Path.{_≡_, refl, sym, ap, subst}
+use mathlib.Core.Bool.{Bool, true, false, not, cond, _&&_, _||_}
+use mathlib.Core.List.{List, [], _∷_}
+use Prim.Native.Nat.{ℕ, zero, suc, _<_}
+use native.Mathlib.Omega.{arith}
+use lib.Dec.{T, eqb}
+use lib.IntN.{ℤ, pos, negsuc, _+ℤ_}
+use lib.ListN.{length, drop}
+use lib.Signed.{leZ}
+use Rattle.signed.specs.Range.{negative}
+use Rattle.units.specs.Units.{cents, _+ᶜ_, lowerOfZero}
+use Rattle.rules.specs.declared.Event.{Event}
+use Rattle.rules.specs.declared.Sums.{Sums}
+use Rattle.rules.specs.Interval.{Settings, place, clearsAt, turned, rule1, rule2, rule4, amount, reached, stepOf}
+use Rattle.rules.specs.History.{latestHalfHour, anyNegative, clearing, sinceClearing, sumNegative, sumSince, underReview, gotThere, liesIn, stateAfter}
+use Rattle.rules.proofs.Sum.{Books, books-fresh, books-turned, books-rule2, low}
+use Rattle.rules.proofs.Span.{Span, both, left, right, advance}
+use Rattle.rules.proofs.Turn.{nextNumber, InTurn, latest-half-hour}
+
+-- ---- the sum
+sum-cond : (c : Bool) (e : Event) (es : List Event) → sumNegative (cond c [] (e ∷ es)) .0 ≡ cond c (pos 0) (sumNegative es .0 +ℤ low (e .residue .0))
+unfolding sumNegative
+sum-cond true e es = refl
+sum-cond false e es = refl
+
+turn-books : (begins : Bool) (es : List Event) {sum : ℤ} {s : Sums} → Books sum (anyNegative es) s → Books sum (anyNegative (cond begins [] es)) (turned begins s)
+unfolding anyNegative
+turn-books true es b = books-turned true b
+turn-books false es b = b
+
+seen-next : (first : ℕ) (e : Event) (es : List Event) → InTurn first (e ∷ es) → anyNegative (latestHalfHour (e ∷ es)) ≡ (negative (e .residue .0) || anyNegative (cond (eqb (place (e .n)) 0) [] (latestHalfHour es)))
+unfolding anyNegative
+seen-next first e es t = rw (latest-half-hour first e es t)
+
+-- ---- the period
+-- i intervals ago the direction got there, without review
+abbrev pub Got : Settings → List Event → ℕ → Type 0
+Got set es i = (i < length es) × T (gotThere set (drop i es)) × T (not (underReview (drop i es)))
+
+-- an interval gets there only at flag 1: the threshold is below zero
+applied : (th : ℤ) → T (negative th) → (flag clears v : Bool) (r next : ℤ) (s : Sums) → (T (not flag) → next ≡ pos 0) → T (leZ (amount (rule2 flag clears (cents r) s) .0 +ℤ next) th && not v) → T flag
+applied (pos k) f flag clears v r next s z t = absurd f
+applied (negsuc k) f true clears v r next s z t = tt
+applied (negsuc k) f false clears v r next s z t = subst (λ (x : ℤ). T (leZ (pos 0 +ℤ x) (negsuc k) && not v)) (z tt) t
+
+zero-above : (th : ℤ) → T (negative th) → T (leZ (pos 0) th) → ⊥
+zero-above (pos k) f t = f
+zero-above (negsuc k) f t = t
+
+module _ (set : Settings) (d : ℕ) where
+  sum-fresh : Books (sumSince [] .0) (anyNegative (latestHalfHour [])) (stateAfter set d [] .sums)
+  unfolding latestHalfHour anyNegative sinceClearing sumNegative stateAfter
+  sum-fresh = books-fresh
+
+  pub sum-of : (first : ℕ) (es : List Event) → InTurn first es → Books (sumSince es .0) (anyNegative (latestHalfHour es)) (stateAfter set d es .sums)
+  unfolding clearing sinceClearing stateAfter stepOf
+  sum-of first [] t = sum-fresh
+  sum-of first (e ∷ es) t =
+      let begins = eqb (place (e .n)) 0 in
+      let seen = anyNegative (cond begins [] (latestHalfHour es)) in
+      rw (sum-cond (clearing (e ∷ es)) e (sinceClearing es), seen-next first e es t)
+      (books-rule2 (e .flag) (clearsAt (place (e .n))) (e .residue .0) seen (turn-books begins (latestHalfHour es) (sum-of first es (t .2))))
+
+  module _ (below : T (negative (set .threshold .0))) (first : ℕ) where
+    -- one interval, and all
+    step : (e : Event) (es : List Event) → InTurn first (e ∷ es) → Span (Got set es) (e .n) (stateAfter set d es .period)
+        → Span (Got set (e ∷ es)) (suc (e .n)) (stateAfter set d (e ∷ es) .period)
+        × (T (reached set e (amount (stateAfter set d (e ∷ es) .sums))) → T (liesIn (suc (e .n)) (stateAfter set d (e ∷ es) .period)))
+    unfolding stateAfter stepOf
+    step e es turn s =
+        let old = rule1 (e .n) (stateAfter set d es .sums) in
+        let sums = rule2 (e .flag) (clearsAt (place (e .n))) (e .residue) old in
+        let got : Bool = reached set e (amount sums) in
+        advance (Got set es) (Got set (e ∷ es)) (λ i w. (omega (arith, w .0), w .1, w .2)) (e .n) (e .flag) got (stateAfter set d es .period)
+        (applied (set .threshold .0) below (e .flag) (clearsAt (place (e .n))) (e .review) (e .residue .0) (e .next .0) old (turn .1))
+        (λ t. let u : T (reached set e (sumSince (e ∷ es))) = subst (λ (z : ℤ). T (reached set e (cents z))) (sum-of first (e ∷ es) turn .total) t in
+        (omega arith, left (gotThere set (e ∷ es)) (not (e .review)) u, right (gotThere set (e ∷ es)) (not (e .review)) u))
+        s
+
+    pub span-of : (es : List Event) → InTurn first es → Span (Got set es) (nextNumber first es) (stateAfter set d es .period)
+    unfolding stateAfter
+    span-of [] t = tt
+    span-of (e ∷ es) t = step e es t (rw (t .0) (span-of es (t .2))) .0
+
+    pub inside-of : (es : List Event) → InTurn first es → T (gotThere set es) → T (not (underReview es)) → T (liesIn (nextNumber first es) (stateAfter set d es .period))
+    unfolding sinceClearing sumNegative
+    inside-of [] t g v = absurd (zero-above (set .threshold .0) below g)
+    inside-of (e ∷ es) t g v = step e es t (rw (t .0) (span-of es (t .2))) .1
+        (subst (λ (z : ℤ). T (reached set e (cents z))) (sym (sum-of first (e ∷ es) t .total)) (both (gotThere set (e ∷ es)) (not (e .review)) g v))

@@ -1,0 +1,111 @@
+-- The tracker is the accepted records replayed: what it keeps of a direction is what the rules make of that direction's history.
+-- Assumes nothing.
+use mathlib.Core.Path.{_≡_, refl, sym, ap, _∙_}
+use mathlib.Core.Bool.{Bool, true, false, not, cond, _&&_}
+use mathlib.Core.List.{List, [], _∷_, foldl}
+use Prim.Native.Nat.{ℕ, zero, suc, _+_, _≤_, _<_}
+use native.Mathlib.Nat.{add-zero, zero-add, add-suc, suc-add}
+use native.Mathlib.Omega.{arith}
+use lib.Dec.{T, eqb}
+use lib.IntN.{pos}
+use lib.ListN.{length, getD, replicate}
+use Rattle.units.specs.declared.Cents.{Cents}
+use Rattle.rules.specs.declared.Direction.{Direction}
+use Rattle.rules.specs.declared.Tracker.{Tracker}
+use Rattle.rules.specs.Interval.{place, fresh, settings, nextOf, stepOf}
+use Rattle.rules.specs.History.{stateAfter}
+use Rattle.rules.specs.Record.{number, present, aheadResidue, flag, eventOf}
+use Rattle.rules.specs.Tracker.{Opening, opens, firstOf, sharesOf, opened, openOf, blank, directionOf, stepFrom, advanced, accepts, intervalOf, after, run}
+use Rattle.rules.specs.Claim.{awaitedAfter, hear, accepted, history}
+use Rattle.rules.proofs.Accepted.{Sound, accepted-is, opened-is}
+use Rattle.rules.proofs.Turn.{nextNumber, InTurn}
+
+-- a relation that two steps keep, two folds keep
+pub fold-keeps : {A B C : Type 0} (R : A → B → Type 0) (f : A → C → A) (g : B → C → B) → ((a : A) (b : B) (c : C) → R a b → R (f a c) (g b c)) → (l : List C) (a : A) (b : B) → R a b → R (foldl f a l) (foldl g b l)
+fold-keeps R f g k [] a b r = r
+fold-keeps R f g k (c ∷ l) a b r = fold-keeps R f g k l (f a c) (g b c) (k a b c r)
+
+-- the eight directions are stepped alike
+module _ (shares b : List ℕ) where
+  length-step : (d : ℕ) (ss : List Direction) → length (stepFrom shares b d ss) ≡ length ss
+  unfolding stepFrom
+  length-step d [] = refl
+  length-step d (s ∷ ss) = ap suc (length-step (suc d) ss)
+
+  step-at : (d : ℕ) (ss : List Direction) (i : ℕ) → i < length ss → getD (stepFrom shares b d ss) i blank ≡ stepOf settings (d + i) (eventOf shares (d + i) b) (getD ss i blank)
+  unfolding stepFrom
+  step-at d [] i h = absurd (omega arith)
+  step-at d (s ∷ ss) zero h = rw add-zero
+  step-at d (s ∷ ss) (suc i) h = rw (add-suc, ← suc-add) (step-at (suc d) ss i (omega arith))
+
+-- at flag 0 there is no estimate
+silent : (shares : List ℕ) (d : ℕ) (b : List ℕ) → T (not (eventOf shares d b .flag)) → eventOf shares d b .next .0 ≡ pos 0
+unfolding eventOf nextOf
+silent shares d b n = at-flag (flag shares b d) (number b) (present b) (aheadResidue shares b d) n
+  where
+    at-flag : (f : Bool) (n : ℕ) (p : Bool) (r : Cents) → T (not f) → nextOf f n p r .0 ≡ pos 0
+    at-flag true n p r t = absurd t
+    at-flag false n p r t = refl
+
+event-number : (shares : List ℕ) (d : ℕ) (b : List ℕ) → eventOf shares d b .n ≡ number b
+unfolding eventOf
+event-number shares d b = refl
+
+module _ (o : Opening) where
+  -- the number that rows show
+  abbrev pub shownAfter : List (List ℕ) → ℕ
+  shownAfter [] = firstOf o
+  shownAfter (b ∷ bs) = number b
+
+  -- the tracker t beside the accepted records bs, the latest first
+  pub record Replays (t : Tracker) (bs : List (List ℕ)) : Type 0 where
+    pub awaits : t .awaited ≡ awaitedAfter o bs
+    pub shows : t .shown ≡ shownAfter bs
+    pub early : awaitedAfter o bs ≤ 1051200
+    pub shares : t .shares ≡ sharesOf o
+    pub eight : length (t .directions) ≡ 8
+    pub each : (d : ℕ) → d < 8 → directionOf t d ≡ stateAfter settings d (history o d bs)
+    pub turns : (d : ℕ) → InTurn (firstOf o) (history o d bs)
+
+  pub next-is : (d : ℕ) (bs : List (List ℕ)) → nextNumber (firstOf o) (history o d bs) ≡ awaitedAfter o bs
+  unfolding history
+  next-is d [] = refl
+  next-is d (b ∷ bs) = ap suc (event-number (sharesOf o) d b)
+
+  fresh-at : (k d : ℕ) → d < k → getD (replicate k fresh) d blank ≡ fresh
+  fresh-at zero d h = absurd (omega arith)
+  fresh-at (suc k) zero h = refl
+  fresh-at (suc k) (suc d) h = fresh-at k d (omega arith)
+
+  first-early : firstOf o ≤ 1051200
+  first-early = go (opens o) refl
+    where
+      go : (y : Bool) → opens o ≡ y → cond y (o .first) 0 ≤ 1051200
+      go true e = omega (arith, opened-is o e .in-range)
+      go false e = omega arith
+
+  pub start : Replays (openOf o .tracker) []
+  unfolding openOf history stateAfter
+  start = record { awaits = refl; shows = refl; early = first-early; shares = refl; eight = refl; each = λ d h. fresh-at 8 d h; turns = λ _. tt }
+
+  pub one : (t : Tracker) (bs : List (List ℕ)) (b : List ℕ) → Replays t bs → Replays (after t b) (hear o bs b)
+  unfolding intervalOf hear history stateAfter advanced
+  one t bs b r = rw (← r .awaits) (go (accepts (t .awaited) b) refl)
+    where
+      go : (y : Bool) → accepts (t .awaited) b ≡ y → Replays (cond y (advanced t b) t) (cond y (b ∷ bs) bs)
+      go true e =
+          let sound = accepted-is (t .awaited) b e in
+          record {
+            awaits = refl;
+            shows = refl;
+            early = omega (arith, sound .in-range);
+            shares = r .shares;
+            eight = length-step (t .shares) b 0 (t .directions) ∙ r .eight;
+            each = λ d lt. rw (step-at (t .shares) b 0 (t .directions) d (omega (arith, r .eight)), zero-add, r .each d lt, r .shares);
+            turns = λ d. (event-number (sharesOf o) d b ∙ sound .in-turn ∙ r .awaits ∙ sym (next-is d bs), silent (sharesOf o) d b, r .turns d);
+          }
+      go false e = r
+
+  pub replays : (calls : List (List ℕ)) → Replays (run o calls) (accepted o calls)
+  unfolding run accepted
+  replays calls = fold-keeps Replays after (hear o) one calls (openOf o .tracker) [] start
