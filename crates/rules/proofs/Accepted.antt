@@ -1,11 +1,10 @@
 -- A call is accepted exactly if none of its conditions is met: for any list of conditions, and named for an interval and for an opening.
 -- Assumes nothing.
-use mathlib.Core.Path.{_≡_, refl, sym, ap, subst, _∙_}
-use mathlib.Core.Bool.{Bool, true, false, not, cond, _&&_, _||_, false≢true}
+use mathlib.Core.Path.{_≡_, refl, sym, ap}
+use mathlib.Core.Bool.{Bool, true, false, not, cond, _||_, false≢true}
 use mathlib.Core.List.{List, [], _∷_}
 use mathlib.Core.Logic.{_↔_}
-use Prim.Native.Nat.{ℕ, zero, suc, _≤_, _<_}
-use native.Mathlib.Omega.{arith}
+use Prim.Native.Nat.{ℕ, _≤_, _<_}
 use borrow.Author.Tests.{eqb-true, eq-eqb, ltb-false, le-ltb, leb-true, le-leb, not-false}
 use lib.Dec.{eqb, ltb, leb}
 use lib.ListN.{length, getD}
@@ -25,11 +24,11 @@ NoneMet (c ∷ cs) = (c .met ≡ false) × NoneMet cs
 -- The first condition met, as listed, gives the number; without one the call is accepted.
 pub accepted-iff : (cs : List Condition) → (judged cs ≡ Accepted) ↔ NoneMet cs
 accepted-iff [] = (λ _. tt, λ _. refl)
-accepted-iff (c ∷ cs) = go (c .met) refl (accepted-iff cs)
+accepted-iff (c ∷ cs) = go (c .met) (accepted-iff cs)
   where
-    go : (m : Bool) → c .met ≡ m → (judged cs ≡ Accepted) ↔ NoneMet cs → (cond m (Refused (c .number)) (judged cs) ≡ Accepted) ↔ ((m ≡ false) × NoneMet cs)
-    go true k rest = (λ e. absurd (false≢true (ap isAccepted e)), λ n. absurd (false≢true (sym (n .0))))
-    go false k rest = (λ e. (refl, rest .0 e), λ n. rest .1 (n .1))
+    go : (m : Bool) → (judged cs ≡ Accepted) ↔ NoneMet cs → (cond m (Refused (c .number)) (judged cs) ≡ Accepted) ↔ ((m ≡ false) × NoneMet cs)
+    go true rest = (λ e. absurd (false≢true (ap isAccepted e)), λ n. absurd (false≢true (sym (n .0))))
+    go false rest = (λ e. (refl, rest .0 e), λ n. rest .1 (n .1))
 
 is-accepted : (o : Outcome) → isAccepted o ≡ true → o ≡ Accepted
 is-accepted Accepted e = refl

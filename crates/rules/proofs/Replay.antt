@@ -1,6 +1,6 @@
 -- The tracker is the accepted records replayed: what it keeps of a direction is what the rules make of that direction's history.
 -- Assumes nothing.
-use mathlib.Core.Path.{_≡_, refl, sym, ap, _∙_}
+use mathlib.Core.Path.{_≡_, refl, sym, ap, _∙_, subst}
 use mathlib.Core.Bool.{Bool, true, false, not, cond, _&&_}
 use mathlib.Core.List.{List, [], _∷_, foldl}
 use Prim.Native.Nat.{ℕ, zero, suc, _+_, _≤_, _<_}
@@ -57,6 +57,11 @@ module _ (o : Opening) where
   shownAfter [] = firstOf o
   shownAfter (b ∷ bs) = number b
 
+  -- each accepted record met none of the conditions 1 to 8
+  abbrev pub AllSound : List (List ℕ) → Type 0
+  AllSound [] = Unit {0}
+  AllSound (b ∷ bs) = Sound (number b) b × AllSound bs
+
   -- the tracker t beside the accepted records bs, the latest first
   pub record Replays (t : Tracker) (bs : List (List ℕ)) : Type 0 where
     pub awaits : t .awaited ≡ awaitedAfter o bs
@@ -66,6 +71,7 @@ module _ (o : Opening) where
     pub eight : length (t .directions) ≡ 8
     pub each : (d : ℕ) → d < 8 → directionOf t d ≡ stateAfter settings d (history o d bs)
     pub turns : (d : ℕ) → InTurn (firstOf o) (history o d bs)
+    pub sound : AllSound bs
 
   pub next-is : (d : ℕ) (bs : List (List ℕ)) → nextNumber (firstOf o) (history o d bs) ≡ awaitedAfter o bs
   unfolding history
@@ -86,7 +92,7 @@ module _ (o : Opening) where
 
   pub start : Replays (openOf o .tracker) []
   unfolding openOf history stateAfter
-  start = record { awaits = refl; shows = refl; early = first-early; shares = refl; eight = refl; each = λ d h. fresh-at 8 d h; turns = λ _. tt }
+  start = record { awaits = refl; shows = refl; early = first-early; shares = refl; eight = refl; each = λ d h. fresh-at 8 d h; turns = λ _. tt; sound = tt }
 
   pub one : (t : Tracker) (bs : List (List ℕ)) (b : List ℕ) → Replays t bs → Replays (after t b) (hear o bs b)
   unfolding intervalOf hear history stateAfter advanced
@@ -103,6 +109,7 @@ module _ (o : Opening) where
             eight = length-step (t .shares) b 0 (t .directions) ∙ r .eight;
             each = λ d lt. rw (step-at (t .shares) b 0 (t .directions) d (omega (arith, r .eight)), zero-add, r .each d lt, r .shares);
             turns = λ d. (event-number (sharesOf o) d b ∙ sound .in-turn ∙ r .awaits ∙ sym (next-is d bs), silent (sharesOf o) d b, r .turns d);
+            sound = (subst (λ (a : ℕ). Sound a b) (sym (sound .in-turn)) sound, r .sound);
           }
       go false e = r
 

@@ -216,26 +216,35 @@ rule7 set d blocked target period suspended net clamp =
     cond (not (held period) || (suspended || blocked)) swamped (
     clampFrom (cond (isSwamped clamp) target clamp) (stepFor set d (band set net)) (offsetFor set d))
 
--- One interval of direction d: the seven rules in turn.
+-- One interval e of direction d with the state s: the seven rules in turn.
+abbrev pub sumsAfter : Event → Direction → Sums
+sumsAfter e s = rule2 (e .flag) (clearsAt (place (e .n))) (e .residue) (rule1 (e .n) (s .sums))
+
+abbrev pub managedAfter : Settings → Event → Direction → Managed
+managedAfter set e s = rule4 (e .n) (e .flag) (reached set e (amount (sumsAfter e s))) (s .period)
+
+abbrev pub countsAfter : Settings → Event → Direction → Counts
+countsAfter set e s = rule5 (held (s .period)) (e .status) (s .clamp) (sumsAfter e s .current) (managedAfter set e s .period) (s .counts)
+
+abbrev pub suspendedAfter : Settings → Event → Direction → Bool
+suspendedAfter set e s = rule6 (held (s .period)) (managedAfter set e s .period) (sumsAfter e s .net) (countsAfter set e s) (s .suspended)
+
+abbrev pub clampAfter : Settings → ℕ → Event → Direction → Hundredths
+clampAfter set d e s = rule7 set d (e .blocked) (e .target) (managedAfter set e s .period) (suspendedAfter set e s) (sumsAfter e s .net) (s .clamp)
+
 unfoldable pub stepOf : Settings → ℕ → Event → Direction → Direction
-stepOf set d e s =
-    let sums = rule2 (e .flag) (clearsAt (place (e .n))) (e .residue) (rule1 (e .n) (s .sums)) in
-    let after = rule4 (e .n) (e .flag) (reached set e (amount sums)) (s .period) in
-    let before = held (s .period) in
-    let counts = rule5 before (e .status) (s .clamp) (sums .current) (after .period) (s .counts) in
-    let suspended = rule6 before (after .period) (sums .net) counts (s .suspended) in
-    record {
-      sums = sums;
-      period = after .period;
-      clamp = rule7 set d (e .blocked) (e .target) (after .period) suspended (sums .net) (s .clamp);
-      counts = counts;
-      suspended = suspended;
-      residue = e .residue;
-      next = e .next;
-      blocked = e .blocked;
-      flag = e .flag;
-      notice = after .notice;
-    }
+stepOf set d e s = record {
+  sums = sumsAfter e s;
+  period = managedAfter set e s .period;
+  clamp = clampAfter set d e s;
+  counts = countsAfter set e s;
+  suspended = suspendedAfter set e s;
+  residue = e .residue;
+  next = e .next;
+  blocked = e .blocked;
+  flag = e .flag;
+  notice = managedAfter set e s .notice;
+}
 
 -- Document 01's numbers: the threshold, the bands of net, the steps in MW (000, table 2) and the offset.
 abbrev pub megawatts : ℤ → Hundredths

@@ -7,3 +7,4 @@ pub mod Record
 pub mod Refusal
 pub mod Tracker
 pub mod Claim
+pub mod Bounds

@@ -1,0 +1,40 @@
+-- How large the numbers of a tracker get: they keep the code from overflowing, and a line of the listing short.
+use mathlib.Core.Path.{_≡_}
+use Prim.Native.Nat.{ℕ, _+_, _*_, _≤_}
+use lib.IntN.{pos, natAbs}
+use Rattle.signed.specs.Range.{Within}
+use Rattle.rules.specs.declared.Period.{Period}
+use Rattle.rules.specs.declared.Period.the-variants.{None, Held}
+use Rattle.rules.specs.declared.Direction.{Direction}
+
+-- cents: a residue, an estimate, and a sum of residues over all intervals, 0 to 1,051,199
+abbrev pub highestResidue : ℕ
+highestResidue = 6000000000
+
+abbrev pub highestNext : ℕ
+highestNext = 36000000000
+
+abbrev pub highestSum : ℕ
+highestSum = 1051200 * highestResidue
+
+-- a period begins no later than the awaited number a, and ends in that half-hour or the next
+pub record PeriodBounds (a first last : ℕ) : Type 0 where
+  pub begun : first ≤ a
+  pub ends : last ≤ a + 11
+
+abbrev pub boundedPeriod : ℕ → Period → Type 0
+boundedPeriod a None = Unit {0}
+boundedPeriod a (Held first last extended) = PeriodBounds a first last
+
+-- what a tracker that awaits a keeps of a direction
+pub record Bounds (a : ℕ) (s : Direction) : Type 0 where
+  pub previous : natAbs (s .sums .previous .0) ≤ highestSum
+  pub current : natAbs (s .sums .current .0) ≤ highestSum
+  pub amount : natAbs (s .sums .previous .0) + natAbs (s .sums .current .0) ≤ highestSum
+  pub net : natAbs (s .sums .net .0) ≤ highestSum
+  pub residue : natAbs (s .residue .0) ≤ highestResidue
+  pub next : natAbs (s .next .0) ≤ highestNext
+  pub period : boundedPeriod a (s .period)
+  pub unbound : s .counts .unbound ≤ 3
+  pub violated : s .counts .violated ≤ 3
+  pub clamp : Within (pos 0) (pos 2000000) (s .clamp .0)
