@@ -1,10 +1,10 @@
 // Money, megawatts and grains as types of their own: a flow can never be passed for an amount, nor an amount for a flow.
 ghost use mathlib.Core.Path.{_≡_};
 ghost use lib.IntN.{pos, _+ℤ_, _-ℤ_, _*ℤ_};
-ghost use lib.Signed.{leZ};
+ghost use lib.Signed.{leZ, ltZ};
 ghost use mir.Syntax.{w64};
 ghost use mir.Val.{SFits};
-ghost use Rattle.signed.specs.Range.{negative, within};
+ghost use Rattle.signed.specs.Range.{negative, eqZ, within};
 ghost use Rattle.units.specs.Units.{_+ᶜ_, _+ʰ_, _×ʰ_, -ʰ_, _+ᵍ_, lowerOfZero};
 
 // A price, a residue or an amount, in cents.
@@ -28,6 +28,18 @@ impl Cents {
         ensures { λ r. ⌜ r ≡ negative (self .0) ⌝ }
     {
         self.0 < 0
+    }
+
+    pub fn is_zero(self) -> bool
+        ensures { λ r. ⌜ r ≡ eqZ (self .0) (pos 0) ⌝ }
+    {
+        self.0 == 0
+    }
+
+    pub fn below(self, other: Cents) -> bool
+        ensures { λ r. ⌜ r ≡ ltZ (self .0) (other .0) ⌝ }
+    {
+        self.0 < other.0
     }
 
     pub fn at_most(self, other: Cents) -> bool
@@ -80,6 +92,18 @@ impl Hundredths {
         ensures { λ r. ⌜ r ≡ negative (self .0) ⌝ }
     {
         self.0 < 0
+    }
+
+    pub fn same(self, other: Hundredths) -> bool
+        ensures { λ r. ⌜ r ≡ eqZ (self .0) (other .0) ⌝ }
+    {
+        self.0 == other.0
+    }
+
+    pub fn below(self, other: Hundredths) -> bool
+        ensures { λ r. ⌜ r ≡ ltZ (self .0) (other .0) ⌝ }
+    {
+        self.0 < other.0
     }
 
     pub fn at_most(self, other: Hundredths) -> bool
