@@ -12,7 +12,7 @@ use Rattle.rules.specs.declared.Outcome.{Outcome}
 use Rattle.rules.specs.declared.Outcome.the-variants.{Accepted, Refused}
 use Rattle.rules.specs.Interval.{place}
 use Rattle.rules.specs.Record.{number}
-use Rattle.rules.specs.Refusal.{Condition, _⇒_, judged, isAccepted, each, lastNumber, badFlags, badStatus, badPrice, badFlow, badAhead, intervalConditions, intervalOutcome, openOutcome}
+use Rattle.rules.specs.Refusal.{Condition, _⇒_, judged, isAccepted, each, lastNumber, badFlags, badStatus, badPrice, badFlow, badAhead, intervalConditions, intervalOutcome, shareOk, openConditions, openOutcome}
 use Rattle.rules.specs.Tracker.{Opening, opens, accepts}
 use Rattle.rules.proofs.Scan.{both-false, each-at, each-by}
 
@@ -26,7 +26,9 @@ pub accepted-iff : (cs : List Condition) → (judged cs ≡ Accepted) ↔ NoneMe
 accepted-iff [] = (λ _. tt, λ _. refl)
 accepted-iff (c ∷ cs) = go (c .met) (accepted-iff cs)
   where
-    go : (m : Bool) → (judged cs ≡ Accepted) ↔ NoneMet cs → (cond m (Refused (c .number)) (judged cs) ≡ Accepted) ↔ ((m ≡ false) × NoneMet cs)
+    go : (m : Bool)
+        → (judged cs ≡ Accepted) ↔ NoneMet cs
+        → (cond m (Refused (c .number)) (judged cs) ≡ Accepted) ↔ ((m ≡ false) × NoneMet cs)
     go true rest = (λ e. absurd (false≢true (ap isAccepted e)), λ n. absurd (false≢true (sym (n .0))))
     go false rest = (λ e. (refl, rest .0 e), λ n. rest .1 (n .1))
 
@@ -68,7 +70,11 @@ accepted-is awaited b e =
 
 pub accepted-by : (awaited : ℕ) (b : List ℕ) → Sound awaited b → accepts awaited b ≡ true
 unfolding intervalOutcome intervalConditions
-accepted-by awaited b s = none-met-by (intervalConditions awaited b) (ap not (eq-eqb (length b) 168 (s .whole)), (le-ltb lastNumber (number b) (s .in-range), (ap not (eq-eqb (number b) awaited (s .in-turn)), (s .flags, (s .statuses, (s .prices, (s .flows, (s .ahead, tt))))))))
+accepted-by awaited b s =
+    let one = ap not (eq-eqb (length b) 168 (s .whole)) in
+    let two = le-ltb lastNumber (number b) (s .in-range) in
+    let three = ap not (eq-eqb (number b) awaited (s .in-turn)) in
+    none-met-by (intervalConditions awaited b) (one, (two, (three, (s .flags, (s .statuses, (s .prices, (s .flows, (s .ahead, tt))))))))
 
 -- What it takes for an opening to be accepted: neither 9 nor 10.
 pub record SoundOpening (o : Opening) : Type 0 where
@@ -83,26 +89,23 @@ module _ (o : Opening) where
   abbrev astride : Bool
   astride = not (eqb (place (o .first)) 0)
 
-  abbrev share-ok : ℕ → Bool
-  share-ok i = leb (getD (o .shares) i 0) 1000
-
   abbrev conditions : List Condition
-  conditions = (late || astride) ⇒ 9 ∷ not (each 6 share-ok) ⇒ 10 ∷ []
+  conditions = openConditions (o .first) (o .shares)
 
   pub opened-is : opens o ≡ true → SoundOpening o
-  unfolding openOutcome
+  unfolding openOutcome openConditions
   opened-is e =
       let none = none-met conditions e in
       let nine = both-false late astride (none .0) in
       record {
         in-range = ltb-false lastNumber (o .first) (nine .0);
         half-hour = eqb-true (place (o .first)) 0 (not-false (eqb (place (o .first)) 0) (nine .1));
-        shares = λ i l. leb-true (getD (o .shares) i 0) 1000 (each-at share-ok 6 (not-false (each 6 share-ok) (none .1 .0)) i l);
+        shares = λ i l. leb-true (getD (o .shares) i 0) 1000 (each-at (shareOk (o .shares)) 6 (not-false (each 6 (shareOk (o .shares))) (none .1 .0)) i l);
       }
 
   pub opened-by : SoundOpening o → opens o ≡ true
-  unfolding openOutcome
-  opened-by s = none-met-by conditions (nine, (ap not (each-by share-ok 6 (λ i l. le-leb (getD (o .shares) i 0) 1000 (s .shares i l))), tt))
+  unfolding openOutcome openConditions
+  opened-by s = none-met-by conditions (nine, (ap not (each-by (shareOk (o .shares)) 6 (λ i l. le-leb (getD (o .shares) i 0) 1000 (s .shares i l))), tt))
     where
       nine : (late || astride) ≡ false
       nine = simp (le-ltb lastNumber (o .first) (s .in-range), eq-eqb (place (o .first)) 0 (s .half-hour))

@@ -1,6 +1,8 @@
--- What follows from the definitions.
+-- What follows from the definitions: laws that pin the shared ones, the figures, the claim over lists with its theorem, and the bounds.
 pub mod Scan
 pub mod Accepted
+pub mod Laws
+pub mod Figures
 pub mod Ranges
 pub mod Size
 pub mod Sum
@@ -10,4 +12,4 @@ pub mod OneDirection
 pub mod Replay
 pub mod Demand
 pub mod Came
-pub mod Bounds
+pub mod Limits

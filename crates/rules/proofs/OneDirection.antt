@@ -1,7 +1,7 @@
 -- The claim of one direction's history: what the rules make of a list of accepted intervals, by recursion on that list, the latest first.
 -- It holds at every settings whose threshold is below zero.
 -- Assumes nothing.
-use mathlib.Core.Path.{_≡_, refl, sym, ap, subst}
+use mathlib.Core.Path.{_≡_, refl, sym, _∙_, subst}
 use mathlib.Core.Bool.{Bool, true, false, not, cond, _&&_, _||_}
 use mathlib.Core.List.{List, [], _∷_}
 use Prim.Native.Nat.{ℕ, zero, suc, _<_}
@@ -9,15 +9,17 @@ use native.Mathlib.Omega.{arith}
 use lib.Dec.{T, eqb}
 use lib.IntN.{ℤ, pos, negsuc, _+ℤ_}
 use lib.ListN.{length, drop}
-use lib.Signed.{leZ}
+use lib.Signed.{ltZ}
 use Rattle.signed.specs.Range.{negative}
-use Rattle.units.specs.Units.{cents, _+ᶜ_, lowerOfZero}
+use Rattle.signed.proofs.Parts.{signed, below-zero}
+use Rattle.units.specs.declared.Cents.{Cents}
+use Rattle.units.specs.Units.{cents, _+ᶜ_}
 use Rattle.rules.specs.declared.Event.{Event}
 use Rattle.rules.specs.declared.Sums.{Sums}
-use Rattle.rules.specs.Interval.{Settings, place, clearsAt, turned, rule1, rule2, rule4, amount, reached, stepOf}
+use Rattle.rules.specs.Interval.{Settings, place, clearsAt, turned, rule1, rule2, rule4, amount, atThreshold, reached, stepOf}
 use Rattle.rules.specs.History.{latestHalfHour, anyNegative, clearing, sinceClearing, sumNegative, sumSince, underReview, gotThere, liesIn, stateAfter}
 use Rattle.rules.proofs.Sum.{Books, books-fresh, books-turned, books-rule2, low}
-use Rattle.rules.proofs.Span.{Span, both, left, right, advance}
+use Rattle.rules.proofs.Span.{Span, T-true, both, left, right, advance}
 use Rattle.rules.proofs.Turn.{nextNumber, InTurn, latest-half-hour}
 
 -- ---- the sum
@@ -40,15 +42,19 @@ seen-next first e es t = rw (latest-half-hour first e es t)
 abbrev pub Got : Settings → List Event → ℕ → Type 0
 Got set es i = (i < length es) × T (gotThere set (drop i es)) × T (not (underReview (drop i es)))
 
--- an interval gets there only at flag 1: the threshold is below zero
-applied : (th : ℤ) → T (negative th) → (flag clears v : Bool) (r next : ℤ) (s : Sums) → (T (not flag) → next ≡ pos 0) → T (leZ (amount (rule2 flag clears (cents r) s) .0 +ℤ next) th && not v) → T flag
-applied (pos k) f flag clears v r next s z t = absurd f
-applied (negsuc k) f true clears v r next s z t = tt
-applied (negsuc k) f false clears v r next s z t = subst (λ (x : ℤ). T (leZ (pos 0 +ℤ x) (negsuc k) && not v)) (z tt) t
+-- nothing at all does not get there: the threshold is below zero
+zero-above : (set : Settings) → T (negative (set .threshold .0)) → T (atThreshold set (cents (pos 0))) → ⊥
+zero-above set below t =
+    let th = set .threshold .0 in
+    let e : atThreshold set (cents (pos 0)) ≡ true = T-true (atThreshold set (cents (pos 0))) t in
+    let n : ltZ th (pos 0) ≡ true = below-zero th ∙ T-true (negative th) below in
+    omega (arith, signed)
 
-zero-above : (th : ℤ) → T (negative th) → T (leZ (pos 0) th) → ⊥
-zero-above (pos k) f t = f
-zero-above (negsuc k) f t = t
+-- an interval gets there only at flag 1
+applied : (set : Settings) → T (negative (set .threshold .0)) → (flag clears v : Bool) (r next : Cents) (s : Sums) → (T (not flag) → next .0 ≡ pos 0) → T (atThreshold set (amount (rule2 flag clears r s) +ᶜ next) && not v) → T flag
+applied set below true clears v r next s z t = tt
+applied set below false clears v r next s z t =
+    absurd (zero-above set below (left (atThreshold set (cents (pos 0))) (not v) (subst (λ (x : ℤ). T (atThreshold set (cents (pos 0 +ℤ x)) && not v)) (z tt) t)))
 
 module _ (set : Settings) (d : ℕ) where
   sum-fresh : Books (sumSince [] .0) (anyNegative (latestHalfHour [])) (stateAfter set d [] .sums)
@@ -75,7 +81,7 @@ module _ (set : Settings) (d : ℕ) where
         let sums = rule2 (e .flag) (clearsAt (place (e .n))) (e .residue) old in
         let got : Bool = reached set e (amount sums) in
         advance (Got set es) (Got set (e ∷ es)) (λ i w. (omega (arith, w .0), w .1, w .2)) (e .n) (e .flag) got (stateAfter set d es .period)
-        (applied (set .threshold .0) below (e .flag) (clearsAt (place (e .n))) (e .review) (e .residue .0) (e .next .0) old (turn .1))
+        (applied set below (e .flag) (clearsAt (place (e .n))) (e .review) (e .residue) (e .next) old (turn .1))
         (λ t. let u : T (reached set e (sumSince (e ∷ es))) = subst (λ (z : ℤ). T (reached set e (cents z))) (sum-of first (e ∷ es) turn .total) t in
         (omega arith, left (gotThere set (e ∷ es)) (not (e .review)) u, right (gotThere set (e ∷ es)) (not (e .review)) u))
         s
@@ -87,6 +93,6 @@ module _ (set : Settings) (d : ℕ) where
 
     pub inside-of : (es : List Event) → InTurn first es → T (gotThere set es) → T (not (underReview es)) → T (liesIn (nextNumber first es) (stateAfter set d es .period))
     unfolding sinceClearing sumNegative
-    inside-of [] t g v = absurd (zero-above (set .threshold .0) below g)
+    inside-of [] t g v = absurd (zero-above set below g)
     inside-of (e ∷ es) t g v = step e es t (rw (t .0) (span-of es (t .2))) .1
         (subst (λ (z : ℤ). T (reached set e (cents z))) (sym (sum-of first (e ∷ es) t .total)) (both (gotThere set (e ∷ es)) (not (e .review)) g v))

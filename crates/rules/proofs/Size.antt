@@ -40,7 +40,7 @@ signed-size (negsuc z) (suc n) = refl
 
 -- At most 2,400,000 times n grains are at most n cents.
 pub rounded-size : (g : Grains) (n : ℕ) → natAbs (g .0) ≤ 2400000 * n → natAbs (rounded g .0) ≤ n
-rounded-size g n h = rw (signed-size (g .0) ((natAbs (g .0) + 1200000) / 2400000)) (omega arith)
+rounded-size g n h = rw signed-size (omega arith)
 
 -- An amount that is passed on or left out.
 pub cond-size : (t : Bool) (r : Cents) (n : ℕ) → natAbs (r .0) ≤ n → natAbs (cond t r (cents (pos 0)) .0) ≤ n

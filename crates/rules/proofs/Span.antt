@@ -31,6 +31,10 @@ abbrev Inside : (ℕ → Type 0) → ℕ → Period → Type 0
 Inside Was a None = ⊥
 Inside Was a (Held first last extended) = Holds Was a first last
 
+pub T-true : (a : Bool) → T a → a ≡ true
+T-true true t = refl
+T-true false t = absurd t
+
 pub both : (a b : Bool) → T a → T b → T (a && b)
 both true true s t = tt
 both true false s t = t

@@ -166,13 +166,14 @@ statusUnbound = 0
 abbrev pub statusViolated : ℕ
 statusViolated = 2
 
+abbrev pub quiet : Bool → Hundredths → Cents → Period → Bool
+quiet before clamp current after = held after && (before && (not (isSwamped clamp) && eqZ (current .0) (pos 0)))
+
 abbrev pub rule5 : Bool → ℕ → Hundredths → Cents → Period → Counts → Counts
-rule5 before status clamp current after counts =
-    let quiet = held after && (before && (not (isSwamped clamp) && eqZ (current .0) (pos 0))) in
-    record {
-      unbound = counted (quiet && eqb status statusUnbound) (counts .unbound);
-      violated = counted (quiet && eqb status statusViolated) (counts .violated);
-    }
+rule5 before status clamp current after counts = record {
+  unbound = counted (quiet before clamp current after && eqb status statusUnbound) (counts .unbound);
+  violated = counted (quiet before clamp current after && eqb status statusViolated) (counts .violated);
+}
 
 -- 6. Suspended: no, if there is no period or it began now; no, if net is below -100,000; yes, if a count is 3; else as it was.
 abbrev pub suspensionEnds : Cents

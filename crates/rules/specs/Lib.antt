@@ -8,3 +8,4 @@ pub mod Refusal
 pub mod Tracker
 pub mod Claim
 pub mod Bounds
+pub mod Figures

@@ -90,9 +90,17 @@ unfoldable pub intervalOutcome : ℕ → List ℕ → Outcome
 intervalOutcome awaited b = judged (intervalConditions awaited b)
 
 -- Opening: 9 first n above 1,051,199 or not a multiple of 6; 10 a share above 1000.
+abbrev pub shareOk : List ℕ → ℕ → Bool
+shareOk shares i = leb (getD shares i 0) 1000
+
+unfoldable pub openConditions : ℕ → List ℕ → List Condition
+openConditions first shares =
+    (ltb lastNumber first || not (eqb (place first) 0)) ⇒ 9
+    ∷ not (each 6 (shareOk shares)) ⇒ 10
+    ∷ []
+
 unfoldable pub openOutcome : ℕ → List ℕ → Outcome
-openOutcome first shares =
-    judged ((ltb lastNumber first || not (eqb (place first) 0)) ⇒ 9 ∷ not (each 6 (λ i. leb (getD shares i 0) 1000)) ⇒ 10 ∷ [])
+openOutcome first shares = judged (openConditions first shares)
 
 -- Row: 17 direction above 7.
 unfoldable pub rowOutcome : ℕ → Outcome

@@ -24,7 +24,7 @@ use Rattle.rules.specs.declared.Period.the-variants.{None, Held}
 use Rattle.rules.specs.declared.Counts.{Counts}
 use Rattle.rules.specs.declared.Direction.{Direction}
 use Rattle.rules.specs.declared.Tracker.{Tracker}
-use Rattle.rules.specs.Interval.{Settings, settings, place, clearsAt, swamped, isSwamped, turned, cleared, settled, grown, rule1, rule2, amount, nextOf, held, counted, statusUnbound, statusViolated, rule5, lower, higher, highestClamp, clampFrom, band, stepFor, offsetFor, rule7, sumsAfter, managedAfter, suspendedAfter, stepOf}
+use Rattle.rules.specs.Interval.{Settings, settings, place, clearsAt, swamped, isSwamped, turned, cleared, settled, grown, rule1, rule2, amount, nextOf, held, counted, statusUnbound, statusViolated, quiet, rule5, lower, higher, highestClamp, clampFrom, band, stepFor, offsetFor, rule7, sumsAfter, managedAfter, suspendedAfter, stepOf}
 use Rattle.rules.specs.History.{clearing, sinceClearing, sumNegative, sumSince, stateAfter}
 use Rattle.rules.specs.Record.{number, present, prices, lines, aheadPrices, aheadLines, flag, residue, aheadResidue, eventOf}
 use Rattle.rules.specs.Tracker.{Opening, firstOf, sharesOf, directionOf}
@@ -96,12 +96,10 @@ pub record CountsBounds (c : Counts) : Type 0 where
   pub violated : c .violated ≤ 3
 
 rule5-size : (before : Bool) (status : ℕ) (clamp : Hundredths) (current : Cents) (after : Period) (counts : Counts) → CountsBounds (rule5 before status clamp current after counts)
-rule5-size before status clamp current after counts =
-    let quiet = held after && (before && (not (isSwamped clamp) && eqZ (current .0) (pos 0))) in
-    record {
-      unbound = counted-size (quiet && eqb status statusUnbound) (counts .unbound);
-      violated = counted-size (quiet && eqb status statusViolated) (counts .violated);
-    }
+rule5-size before status clamp current after counts = record {
+  unbound = counted-size (quiet before clamp current after && eqb status statusUnbound) (counts .unbound);
+  violated = counted-size (quiet before clamp current after && eqb status statusViolated) (counts .violated);
+}
 
 counts-size : (set : Settings) (d : ℕ) (es : List Event) → CountsBounds (stateAfter set d es .counts)
 unfolding stateAfter stepOf

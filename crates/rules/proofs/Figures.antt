@@ -1,0 +1,28 @@
+-- Document 01's figures hold of the definitions.
+-- Assumes nothing.
+use mathlib.Core.Path.{refl}
+use Rattle.rules.specs.Residue.{residueOf}
+use Rattle.rules.specs.Interval.{clearsAt, flagOf, stepOf}
+use Rattle.rules.specs.History.{stateAfter}
+use Rattle.rules.specs.Record.{u32At, i32At, prices, lines}
+use Rattle.rules.specs.Refusal.{each, badFlags, badStatus, badPrice, badFlow, aheadZero, aheadInside, badAhead, intervalConditions, intervalOutcome}
+use Rattle.rules.specs.Figures.{Figures}
+
+pub figures : Figures
+unfolding residueOf clearsAt flagOf stepOf stateAfter u32At i32At prices lines each badFlags badStatus badPrice badFlow aheadZero aheadInside badAhead intervalConditions intervalOutcome
+figures = record {
+  P1 = refl;
+  P1-record = (refl, refl);
+  P2 = refl;
+  P3 = (refl, refl);
+  P4 = refl;
+  P5 = refl;
+  P6 = (refl, refl);
+  P7 = refl;
+  P7-again = refl;
+  P8 = refl;
+  P9 = (refl, refl);
+  P10 = (refl, refl);
+  P11 = refl;
+  P12 = (refl, refl);
+}

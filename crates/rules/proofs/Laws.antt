@@ -1,0 +1,157 @@
+-- Laws that pin residue, loop flag and next from outside: they serve the calls and the claim alike, so that neither would show a wrong one.
+-- Assumes nothing.
+use mathlib.Core.Path.{_≡_, refl, sym, ap, ap₂, _∙_}
+use mathlib.Core.Bool.{Bool, true, false, not, cond, _&&_, Bool·beq, false≢true, and-false}
+use mathlib.Core.List.{List}
+use mathlib.Core.Logic.{_↔_, _≢_}
+use Prim.Native.Nat.{ℕ, _+_, _*_, _%_, _≤_, _<_}
+use native.Mathlib.Omega.{arith}
+use borrow.Author.Tests.{le-leb, lt-leb, eq-eqb, ne-eqb}
+use lib.Dec.{eqb}
+use lib.IntN.{ℤ, pos, negsuc, _+ℤ_, _-ℤ_, _*ℤ_, +ℤ-idl, +ℤ-idr, zero-*ℤ}
+use lib.ListN.{getD}
+use lib.Signed.{_≤ℤ_}
+use Rattle.signed.specs.Range.{negative}
+use Rattle.units.specs.declared.Cents.{Cents}
+use Rattle.units.specs.declared.Grains.{Grains}
+use Rattle.units.specs.declared.Hundredths.{Hundredths}
+use Rattle.units.specs.Units.{cents, _+ᶜ_, lowerOfZero, _+ʰ_, grains, _+ᵍ_}
+use Rattle.rules.specs.declared.Line.{Line}
+use Rattle.rules.specs.Market.{corridorOf, reverse}
+use Rattle.rules.specs.Residue.{grainsOf, rounded, price, line, corridorGrains, corridorFlow, residueOf}
+use Rattle.rules.specs.Interval.{place, flagOf, nextOf}
+use Rattle.rules.specs.Record.{number, operating, present, aheadPrices, aheadLines, residue, aheadResidue, flag, next}
+
+-- ---- the loop flag
+-- 1 for directions 0 and 1, always;
+pub flag-outside : (op : Bool) (sum : Cents) (d : ℕ) → d < 2 → flagOf op sum d ≡ true
+unfolding flagOf
+flag-outside op sum d l = rw (lt-leb 2 d l)
+
+-- 0 for directions 2-7 if the loop is operating and the sum is zero or more; else 1.
+pub flag-inside : (op : Bool) (sum : Cents) (d : ℕ) → 2 ≤ d → flagOf op sum d ≡ not (op && not (negative (sum .0)))
+unfolding flagOf
+flag-inside op sum d l = rw (le-leb 2 d l)
+
+module _ (shares b : List ℕ) where
+  -- The residues of directions 2-7, added.
+  abbrev pub loopResidues : Cents
+  loopResidues = residue shares b 2 +ᶜ residue shares b 3 +ᶜ residue shares b 4 +ᶜ residue shares b 5 +ᶜ residue shares b 6 +ᶜ residue shares b 7
+
+  pub record-flag-outside : (d : ℕ) → d < 2 → flag shares b d ≡ true
+  record-flag-outside = flag-outside (operating b) loopResidues
+
+  -- Directions 2-7 have one flag between them,
+  pub record-flag-inside : (d : ℕ) → 2 ≤ d → flag shares b d ≡ not (operating b && not (negative (loopResidues .0)))
+  record-flag-inside = flag-inside (operating b) loopResidues
+
+  -- 0 exactly if bit 1 is set and their residues sum to zero or more.
+  pub record-flag-zero : (d : ℕ) → 2 ≤ d → (flag shares b d ≡ false) ↔ ((operating b ≡ true) × (negative (loopResidues .0) ≡ false))
+  record-flag-zero d l = rw (record-flag-inside d l) (go (operating b) (negative (loopResidues .0)))
+    where
+      go : (op low : Bool) → (not (op && not low) ≡ false) ↔ ((op ≡ true) × (low ≡ false))
+      go true true = (λ e. absurd (false≢true (sym e)), λ h. absurd (false≢true (sym (h .1))))
+      go true false = (λ _. (refl, refl), λ _. refl)
+      go false low = (λ e. absurd (false≢true (sym e)), λ h. absurd (false≢true (h .0)))
+
+-- ---- next
+lower-of-zero-low : (z : ℤ) → lowerOfZero (cents z) .0 ≤ℤ pos 0
+lower-of-zero-low (pos n) = record { le = tt }
+lower-of-zero-low (negsuc n) = record { le = tt }
+
+-- What next is, of an interval n with its loop flag, whether pre-dispatch is present, and the pre-dispatch residue.
+pub record NextLaw (flag : Bool) (n : ℕ) (present : Bool) (ahead next : Cents) : Type 0 where
+  -- Next is the lower of the pre-dispatch residue and 0 if q = 5, pre-dispatch is present and the flag is 1;
+  pub estimate : flag ≡ true → place n ≡ 5 → present ≡ true → next ≡ lowerOfZero ahead
+  -- else 0: with q not 5, with pre-dispatch absent, and with flag 0.
+  pub elsewhere : place n ≢ 5 → next ≡ cents (pos 0)
+  pub absent : present ≡ false → next ≡ cents (pos 0)
+  pub exempt : flag ≡ false → next ≡ cents (pos 0)
+  -- It is never above 0.
+  pub low : next .0 ≤ℤ pos 0
+
+pub next-law : (flag : Bool) (n : ℕ) (present : Bool) (ahead : Cents) → NextLaw flag n present ahead (nextOf flag n present ahead)
+unfolding nextOf
+next-law flag n present ahead = record {
+  estimate = λ f q p. simp (f, q, p);
+  elsewhere = λ q. simp (ne-eqb (place n) 5 q, and-false);
+  absent = λ p. simp (p, and-false);
+  exempt = λ f. simp f;
+  low = go (flag && (eqb (place n) 5 && present));
+}
+  where
+    go : (t : Bool) → cond t (lowerOfZero ahead) (cents (pos 0)) .0 ≤ℤ pos 0
+    go true = lower-of-zero-low (ahead .0)
+    go false = record { le = tt }
+
+pub record-next-law : (shares b : List ℕ) (d : ℕ)
+    → NextLaw (flag shares b d) (number b) (present b) (residueOf (aheadPrices b) shares (aheadLines b) d) (next shares b d)
+record-next-law shares b d = next-law (flag shares b d) (number b) (present b) (aheadResidue shares b d)
+
+-- ---- the residue
+-- k is the From loss share: at 1000 the From price bears all losses, at 0 the To price does.
+pub losses-on-from : (P Q : Cents) (l : Line) → grainsOf P Q 1000 l ≡ grains (P .0 *ℤ (pos 1000 *ℤ l .a .0) -ℤ Q .0 *ℤ (pos 1000 *ℤ l .a .0 +ℤ pos 1000 *ℤ l .b .0))
+losses-on-from P Q l =
+    let flow = pos 1000 *ℤ l .a .0 in
+    let sent = Q .0 *ℤ (flow +ℤ pos 1000 *ℤ l .b .0) in
+    ap (λ (z : ℤ). grains (P .0 *ℤ (flow -ℤ z) -ℤ sent)) (zero-*ℤ (l .b .0)) ∙ ap (λ (z : ℤ). grains (P .0 *ℤ z -ℤ sent)) (+ℤ-idr flow)
+
+pub losses-on-to : (P Q : Cents) (l : Line) → grainsOf P Q 0 l ≡ grains (P .0 *ℤ (pos 1000 *ℤ l .a .0 -ℤ pos 1000 *ℤ l .b .0) -ℤ Q .0 *ℤ (pos 1000 *ℤ l .a .0))
+losses-on-to P Q l = simp (zero-*ℤ, +ℤ-idr)
+
+-- Direction 2c is From_To of corridor c,
+pub direction-from-to : (c : ℕ) → (corridorOf (2 * c) ≡ c) × (reverse (2 * c) ≡ false)
+direction-from-to c = (omega arith, ne-eqb (2 * c % 2) 1 (omega arith))
+
+-- 2c+1 is To_From.
+pub direction-to-from : (c : ℕ) → (corridorOf (2 * c + 1) ≡ c) × (reverse (2 * c + 1) ≡ true)
+direction-to-from c = (omega arith, eq-eqb ((2 * c + 1) % 2) 1 (omega arith))
+
+module _ (prices : List Cents) (shares : List ℕ) (lines : List Line) where
+  -- The grains of physical interconnector i between two regions (NSW1 0, QLD1 1, SA1 2, VIC1 3): P is the To price, Q the From price.
+  abbrev pub grainsAt : ℕ → ℕ → ℕ → Grains
+  grainsAt from to i = grainsOf (price prices shares lines to) (price prices shares lines from) (getD shares i 0) (line prices shares lines i)
+
+  abbrev pub aAt : ℕ → Hundredths
+  aAt i = line prices shares lines i .a
+
+  -- Grains are summed over a corridor, and so is a: NSW1 to QLD1 (physical 0, 1);
+  pub NSW1-to-QLD1 : (corridorGrains prices shares lines 0 ≡ grainsAt 0 1 0 +ᵍ grainsAt 0 1 1) × (corridorFlow prices shares lines 0 ≡ aAt 0 +ʰ aAt 1)
+  NSW1-to-QLD1 = (simp +ℤ-idl, simp +ℤ-idl)
+
+  -- VIC1 to NSW1 (2);
+  pub VIC1-to-NSW1 : (corridorGrains prices shares lines 1 ≡ grainsAt 3 0 2) × (corridorFlow prices shares lines 1 ≡ aAt 2)
+  VIC1-to-NSW1 = (simp +ℤ-idl, simp +ℤ-idl)
+
+  -- VIC1 to SA1 (3, 4);
+  pub VIC1-to-SA1 : (corridorGrains prices shares lines 2 ≡ grainsAt 3 2 3 +ᵍ grainsAt 3 2 4) × (corridorFlow prices shares lines 2 ≡ aAt 3 +ʰ aAt 4)
+  VIC1-to-SA1 = (simp +ℤ-idl, simp +ℤ-idl)
+
+  -- NSW1 to SA1 (5).
+  pub NSW1-to-SA1 : (corridorGrains prices shares lines 3 ≡ grainsAt 0 2 5) × (corridorFlow prices shares lines 3 ≡ aAt 5)
+  NSW1-to-SA1 = (simp +ℤ-idl, simp +ℤ-idl)
+
+  -- Then they are rounded. The corridor's sum of a gives the direction:
+  abbrev assigned : ℕ → Bool → Bool → Cents
+  assigned c to-from flows-back = cond (Bool·beq to-from flows-back) (rounded (corridorGrains prices shares lines c)) (cents (pos 0))
+
+  abbrev pub flowsBack : ℕ → Bool
+  flowsBack c = negative (corridorFlow prices shares lines c .0)
+
+  residue-is : (c d : ℕ) (to-from flows-back : Bool)
+      → (corridorOf d ≡ c) × (reverse d ≡ to-from)
+      → flowsBack c ≡ flows-back
+      → residueOf prices shares lines d ≡ assigned c to-from flows-back
+  unfolding residueOf
+  residue-is c d to-from flows-back of f = ap₂ (λ c t. assigned c t (flowsBack c)) (of .0) (of .1) ∙ ap (assigned c to-from) f
+
+  -- zero or more is From_To, less is To_From. That direction's residue r is the rounded sum; the other's is 0.
+  pub residue-from-to : (c : ℕ)
+      → flowsBack c ≡ false
+      → (residueOf prices shares lines (2 * c) ≡ rounded (corridorGrains prices shares lines c)) × (residueOf prices shares lines (2 * c + 1) ≡ cents (pos 0))
+  residue-from-to c f = (residue-is c (2 * c) false false (direction-from-to c) f, residue-is c (2 * c + 1) true false (direction-to-from c) f)
+
+  pub residue-to-from : (c : ℕ)
+      → flowsBack c ≡ true
+      → (residueOf prices shares lines (2 * c) ≡ cents (pos 0)) × (residueOf prices shares lines (2 * c + 1) ≡ rounded (corridorGrains prices shares lines c))
+  residue-to-from c f = (residue-is c (2 * c) false true (direction-from-to c) f, residue-is c (2 * c + 1) true true (direction-to-from c) f)

@@ -1,0 +1,104 @@
+-- Document 01, "Figures to prove (P)": one table about the definitions.
+use mathlib.Core.Bool.{Bool, true, false}
+use mathlib.Core.List.{List, [], _∷_, _++_}
+use mathlib.Core.Path.{_≡_}
+use Prim.Native.Nat.{ℕ}
+use lib.IntN.{ℤ, pos}
+use lib.ListN.{replicate}
+use Rattle.signed.specs.Range.{minus}
+use Rattle.units.specs.declared.Cents.{Cents}
+use Rattle.units.specs.declared.Hundredths.{Hundredths}
+use Rattle.units.specs.Units.{cents, hundredths, grains}
+use Rattle.rules.specs.declared.Line.{Line}
+use Rattle.rules.specs.declared.Event.{Event}
+use Rattle.rules.specs.declared.Period.the-variants.{Held}
+use Rattle.rules.specs.declared.Outcome.the-variants.{Accepted}
+use Rattle.rules.specs.Residue.{intervalLine, aheadLine, rounded, residueOf}
+use Rattle.rules.specs.Interval.{settings, reached, band, stepFor, offsetFor, clampFrom, flagOf}
+use Rattle.rules.specs.History.{stateAfter}
+use Rattle.rules.specs.Record.{residue}
+use Rattle.rules.specs.Refusal.{intervalOutcome}
+
+-- All shares 500.
+abbrev pub halves : List ℕ
+halves = replicate 6 500
+
+-- The residue of VIC1_NSW1 with VIC1 price 10,000, NSW1 price -5,000, l on VIC1-NSW1 and nothing elsewhere.
+abbrev pub idle : Line
+idle = intervalLine (hundredths (pos 0)) (hundredths (pos 0)) (hundredths (pos 0))
+
+abbrev pub onVIC1-NSW1 : Line → Cents
+onVIC1-NSW1 l =
+    let prices = cents (minus 5000) ∷ cents (pos 0) ∷ cents (pos 0) ∷ cents (pos 10000) ∷ [] in
+    residueOf prices halves (idle ∷ idle ∷ l ∷ idle ∷ idle ∷ idle ∷ []) 2
+
+-- An interval with metered and target 30,000.
+abbrev pub flowing : ℤ → Line
+flowing losses = intervalLine (hundredths (pos 30000)) (hundredths (pos 30000)) (hundredths losses)
+
+-- The same as a record: n = 0, all zero but those prices, and VIC1-NSW1 metered and target 30,000.
+abbrev pub theRecord : List ℕ
+theRecord =
+    replicate 16 0
+    ++ (120 ∷ 236 ∷ 255 ∷ 255 ∷ [])
+    ++ replicate 8 0
+    ++ (16 ∷ 39 ∷ 0 ∷ 0 ∷ [])
+    ++ replicate 24 0
+    ++ (48 ∷ 117 ∷ 0 ∷ 0 ∷ 48 ∷ 117 ∷ 0 ∷ 0 ∷ [])
+    ++ replicate 104 0
+
+-- Interval n with residue r: flag 1, no estimate, no review, unbound.
+abbrev pub at : ℕ → ℤ → Event
+at n r = record {
+  n = n;
+  flag = true;
+  residue = cents r;
+  next = cents (pos 0);
+  review = false;
+  status = 0;
+  blocked = false;
+  target = hundredths (pos 0);
+}
+
+-- Intervals from 6 on, of which the last is the first that reaches.
+abbrev pub until8 : List Event
+until8 = at 8 (minus 10000000) ∷ at 7 (pos 0) ∷ at 6 (pos 0) ∷ []
+
+abbrev pub until11 : List Event
+until11 = at 11 (minus 10000000) ∷ at 10 (pos 0) ∷ at 9 (pos 0) ∷ at 8 (pos 0) ∷ at 7 (pos 0) ∷ at 6 (pos 0) ∷ []
+
+-- The step of a direction at net.
+abbrev pub stepAt : ℕ → ℤ → Hundredths
+stepAt d net = stepFor settings d (band settings (cents net))
+
+-- Whether a total without review is reached.
+abbrev pub reaches : ℤ → Bool
+reaches total = reached settings (at 0 (pos 0)) (cents total)
+
+pub record Figures : Type 0 where
+  -- P1 the case above: -375,000.
+  pub P1 : onVIC1-NSW1 (flowing (pos 0)) ≡ cents (minus 375000)
+  pub P1-record : (intervalOutcome 0 theRecord ≡ Accepted) × (residue halves theRecord 2 ≡ cents (minus 375000))
+  -- P2 with losses 1,200, share 500: -377,500.
+  pub P2 : onVIC1-NSW1 (flowing (pos 1200)) ≡ cents (minus 377500)
+  -- P3 grains 1,199,999 give 0; 1,200,000 give 1.
+  pub P3 : (rounded (grains (pos 1199999)) ≡ cents (pos 0)) × (rounded (grains (pos 1200000)) ≡ cents (pos 1))
+  -- P4 grains -1,200,000 give -1.
+  pub P4 : rounded (grains (minus 1200000)) ≡ cents (minus 1)
+  -- P5 pre-dispatch flow 30,000, same prices: -2,250,000.
+  pub P5 : onVIC1-NSW1 (aheadLine (hundredths (pos 30000)) (hundredths (pos 0))) ≡ cents (minus 2250000)
+  -- P6 total -9,999,999 not reached; -10,000,000 reached.
+  pub P6 : (reaches (minus 9999999) ≡ false) × (reaches (minus 10000000) ≡ true)
+  -- P7 reached first at 8: period 9 to 17; again at 11: to 23.
+  pub P7 : stateAfter settings 0 until8 .period ≡ Held 9 17 false
+  pub P7-again : stateAfter settings 0 (at 11 (pos 0) ∷ at 10 (pos 0) ∷ at 9 (pos 0) ∷ until8) .period ≡ Held 9 23 true
+  -- P8 reached first at 11: 12 to 17.
+  pub P8 : stateAfter settings 0 until11 .period ≡ Held 12 17 false
+  -- P9 direction 4, net -500,000: step -3,000; -500,001: -5,000.
+  pub P9 : (stepAt 4 (minus 500000) ≡ hundredths (minus 3000)) × (stepAt 4 (minus 500001) ≡ hundredths (minus 5000))
+  -- P10 net -100,000 and 99,999: 0.
+  pub P10 : (stepAt 4 (minus 100000) ≡ hundredths (pos 0)) × (stepAt 4 (pos 99999) ≡ hundredths (pos 0))
+  -- P11 base 5,000, step -10,000: 2,000.
+  pub P11 : clampFrom (hundredths (pos 5000)) (hundredths (minus 10000)) (offsetFor settings 0) ≡ hundredths (pos 2000)
+  -- P12 loop sum 0: flag 0; -1: flag 1.
+  pub P12 : (flagOf true (cents (pos 0)) 2 ≡ false) × (flagOf true (cents (minus 1)) 2 ≡ true)
