@@ -18,9 +18,9 @@ use Rattle.units.specs.declared.Hundredths.{Hundredths}
 use Rattle.units.specs.Units.{cents, hundredths, -ʰ_}
 use Rattle.rules.specs.declared.Line.{Line}
 use Rattle.rules.specs.Market.{priceOk, flowOk, lossOk, corridorOf, reverse}
-use Rattle.rules.specs.Residue.{intervalLine, aheadLine, sumFrom, overLines}
-use Rattle.rules.specs.Record.{u32At, twos, i32At, present, price, metered, target, losses, aheadPrice, aheadFlow, aheadLosses, ofRegions, ofLines, prices, lines, aheadPrices, aheadLines, targetSum}
-use Rattle.rules.specs.Refusal.{each, badPrice, badFlow, badAhead, aheadZero, aheadInside}
+use Rattle.rules.specs.Residue.{sumFrom, overLines}
+use Rattle.rules.specs.Record.{u32At, twos, i32At, present, price, metered, target, losses, aheadPrice, aheadFlow, aheadLosses, ofRegions, ofLines, prices, lines, aheadPrices, aheadLines, targetSum, lineOf, aheadLineOf}
+use Rattle.rules.specs.Refusal.{each, badPrice, badFlow, badAhead, aheadZero, aheadInside, lineOk, aheadLineOk}
 use Rattle.rules.specs.Tracker.{Opening, opens, sharesOf}
 use Rattle.rules.proofs.Scan.{both-true, each-at}
 use Rattle.rules.proofs.Accepted.{Sound, opened-is}
@@ -111,7 +111,7 @@ module _ (awaited : ℕ) (b : List ℕ) (s : Sound awaited b) where
   flows-tested : (i : ℕ) → i < 6 → (flowOk (metered b i) ≡ true) × (flowOk (target b i) ≡ true) × (lossOk (losses b i) ≡ true)
   unfolding badFlow
   flows-tested i l =
-      let at = each-at (λ i. flowOk (metered b i) && (flowOk (target b i) && lossOk (losses b i))) 6 (not-false _ (s .flows)) i l in
+      let at = each-at (lineOk b) 6 (not-false _ (s .flows)) i l in
       let all = both-true (flowOk (metered b i)) _ at in
       let rest = both-true (flowOk (target b i)) _ (all .1) in
       (all .0, rest .0, rest .1)
@@ -150,7 +150,7 @@ module _ (awaited : ℕ) (b : List ℕ) (s : Sound awaited b) where
 
   ahead-flows-tested : aheadInside b ≡ true → (i : ℕ) → i < 6 → (flowOk (aheadFlow b i) && lossOk (aheadLosses b i)) ≡ true
   unfolding aheadInside
-  ahead-flows-tested t = each-at (λ i. flowOk (aheadFlow b i) && lossOk (aheadLosses b i)) 6 (both-true (each 4 (λ region. priceOk (aheadPrice b region))) _ t .1)
+  ahead-flows-tested t = each-at (aheadLineOk b) 6 (both-true (each 4 (λ region. priceOk (aheadPrice b region))) _ t .1)
 
   pub ahead-flow-bound : (i : ℕ) → i < 6 → natAbs (aheadFlow b i .0) ≤ 500000
   ahead-flow-bound i l =
@@ -165,13 +165,13 @@ module _ (awaited : ℕ) (b : List ℕ) (s : Sound awaited b) where
   -- ---- the lists
   pub interval-ranged : Ranged (prices b) (lines b) 1000000 200000
   unfolding prices lines
-  interval-ranged = ranged (price b) (λ i. intervalLine (metered b i) (target b i) (losses b i)) 1000000 200000 price-bound
+  interval-ranged = ranged (price b) (lineOf b) 1000000 200000 price-bound
       (λ i l. omega (arith, abs-add (metered b i .0) (target b i .0), metered-bound i l, target-bound i l))
       (λ i l. times-bound 2 100000 (losses b i .0) (losses-bound i l))
 
   pub ahead-ranged : Ranged (aheadPrices b) (aheadLines b) 6000000 1200000
   unfolding aheadPrices aheadLines
-  ahead-ranged = ranged (aheadPrice b) (λ i. aheadLine (aheadFlow b i) (aheadLosses b i)) 6000000 1200000 ahead-price-bound
+  ahead-ranged = ranged (aheadPrice b) (aheadLineOf b) 6000000 1200000 ahead-price-bound
       (λ i l. times-bound 12 500000 (aheadFlow b i .0) (ahead-flow-bound i l))
       (λ i l. times-bound 12 100000 (aheadLosses b i .0) (ahead-losses-bound i l))
 

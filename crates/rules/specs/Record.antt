@@ -95,14 +95,20 @@ ofLines f = f 0 ∷ f 1 ∷ f 2 ∷ f 3 ∷ f 4 ∷ f 5 ∷ []
 unfoldable pub prices : List ℕ → List Cents
 prices b = ofRegions (price b)
 
+abbrev pub lineOf : List ℕ → ℕ → Line
+lineOf b i = intervalLine (metered b i) (target b i) (losses b i)
+
 unfoldable pub lines : List ℕ → List Line
-lines b = ofLines (λ i. intervalLine (metered b i) (target b i) (losses b i))
+lines b = ofLines (lineOf b)
 
 unfoldable pub aheadPrices : List ℕ → List Cents
 aheadPrices b = ofRegions (aheadPrice b)
 
+abbrev pub aheadLineOf : List ℕ → ℕ → Line
+aheadLineOf b i = aheadLine (aheadFlow b i) (aheadLosses b i)
+
 unfoldable pub aheadLines : List ℕ → List Line
-aheadLines b = ofLines (λ i. aheadLine (aheadFlow b i) (aheadLosses b i))
+aheadLines b = ofLines (aheadLineOf b)
 
 -- What a record says of direction d, under the shares of the opening: the interval's residue, the pre-dispatch residue, the loop flag, next,
 abbrev pub residue : List ℕ → List ℕ → ℕ → Cents

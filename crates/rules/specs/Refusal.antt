@@ -59,16 +59,21 @@ unfoldable pub badPrice : List ℕ → Bool
 badPrice b = not (each 4 (λ region. priceOk (price b region)))
 
 -- 7 flow or loss outside;
+abbrev pub lineOk : List ℕ → ℕ → Bool
+lineOk b i = flowOk (metered b i) && (flowOk (target b i) && lossOk (losses b i))
+
 unfoldable pub badFlow : List ℕ → Bool
-badFlow b = not (each 6 (λ i. flowOk (metered b i) && (flowOk (target b i) && lossOk (losses b i))))
+badFlow b = not (each 6 (lineOk b))
 
 -- 8 pre-dispatch absent and not all zero, or present and outside.
 unfoldable pub aheadZero : List ℕ → Bool
 aheadZero b = each 16 (λ i. eqb (u32At b (104 + 4 * i)) 0)
 
+abbrev pub aheadLineOk : List ℕ → ℕ → Bool
+aheadLineOk b i = flowOk (aheadFlow b i) && lossOk (aheadLosses b i)
+
 unfoldable pub aheadInside : List ℕ → Bool
-aheadInside b =
-    each 4 (λ region. priceOk (aheadPrice b region)) && each 6 (λ i. flowOk (aheadFlow b i) && lossOk (aheadLosses b i))
+aheadInside b = each 4 (λ region. priceOk (aheadPrice b region)) && each 6 (aheadLineOk b)
 
 unfoldable pub badAhead : List ℕ → Bool
 badAhead b = not (cond (present b) (aheadInside b) (aheadZero b))

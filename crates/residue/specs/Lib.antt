@@ -1,0 +1,3 @@
+-- What the contracts of this crate cite beyond the rules.
+pub mod Range
+pub mod Directions

@@ -1,0 +1,18 @@
+-- `step::amount` meets its contract.
+-- Assumes nothing.
+use native.Mathlib.Omega.{arith}
+use Rattle.signed.proofs.Calc.{sum-fits}
+use borrow.Author.Needs.{needs}
+use Rattle.step.proofs.amount.Statement.{statement}
+use Rattle.step.proofs.amount.Tie as tie
+
+plus-requires : tie.Need-plus-requires
+plus-requires c κs =
+    let s = c .before .before in
+    sum-fits (s .args .s .previous .0) (s .args .s .current .0) (omega (arith, s .pre))
+
+returns : tie.Need-returns
+returns c = search needs
+
+pub amount-spec : {M : Type 1} → statement M
+amount-spec = tie.close (tie.spec plus-requires returns)

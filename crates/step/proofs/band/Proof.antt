@@ -1,0 +1,39 @@
+-- `step::band` meets its contract: net compared to the edges, from the lowest.
+-- Assumes nothing.
+use mathlib.Core.Path.{sym, _∙_}
+use borrow.Author.Needs.{needs}
+use Rattle.step.proofs.band.Statement.{statement}
+use Rattle.step.proofs.band.Tie as tie
+
+below-requires : tie.Need-below-requires
+below-requires c κs = search needs
+
+returns : tie.Need-returns
+returns c = rw (sym (c .before .below .ensures) ∙ c .if1 .taken)
+
+below-requires-2 : tie.Need-below-requires-2
+below-requires-2 c κs = search needs
+
+returns-2 : tie.Need-returns-2
+returns-2 c = rw (sym (c .before .before .before .below .ensures) ∙ c .before .before .if1 .left, sym (c .before .below2 .ensures) ∙ c .if2 .taken)
+
+below-requires-3 : tie.Need-below-requires-3
+below-requires-3 c κs = search needs
+
+returns-3 : tie.Need-returns-3
+returns-3 c = rw (sym (c .before .before .before .before .before .below .ensures) ∙ c .before .before .before .before .if1 .left, sym (c .before .before .before .below2 .ensures) ∙ c .before .before .if2 .left, sym (c .before .below3 .ensures) ∙ c .if3 .taken)
+
+returns-4 : tie.Need-returns-4
+returns-4 c = rw (sym (c .before .before .before .before .before .below .ensures) ∙ c .before .before .before .before .if1 .left, sym (c .before .before .before .below2 .ensures) ∙ c .before .before .if2 .left, sym (c .before .below3 .ensures) ∙ c .if3 .left)
+
+pub band-spec : {M : Type 1} → statement M
+band-spec =
+    tie.close
+    (tie.spec
+    below-requires
+    returns
+    below-requires-2
+    returns-2
+    below-requires-3
+    returns-3
+    returns-4)

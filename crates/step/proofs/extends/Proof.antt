@@ -1,0 +1,24 @@
+-- `step::extends` meets its contract: its tests are the definition's.
+-- Assumes nothing.
+use borrow.Author.Tests.{eq-eqb, ne-eqb}
+use borrow.Author.Needs.{needs}
+use Rattle.step.proofs.extends.Statement.{statement}
+use Rattle.step.proofs.extends.Tie as tie
+
+returns : tie.Need-returns
+returns c = rw (eq-eqb _ _ (c .if1 .taken))
+
+mul-if2 : tie.Need-mul-if2
+mul-if2 c = search needs
+
+add-if2 : tie.Need-add-if2
+add-if2 c = search needs
+
+returns-2 : tie.Need-returns-2
+returns-2 c = rw (ne-eqb _ _ (c .before .if1 .left), eq-eqb _ _ (c .if2 .taken))
+
+returns-3 : tie.Need-returns-3
+returns-3 c = rw (ne-eqb _ _ (c .before .if1 .left), ne-eqb _ _ (c .if2 .left))
+
+pub extends-spec : {M : Type 1} → statement M
+extends-spec = tie.close (tie.spec returns mul-if2 add-if2 returns-2 returns-3)

@@ -1,0 +1,55 @@
+-- `step::kept` meets its contract, case by case.
+-- Assumes nothing.
+use mathlib.Core.Path.{_≡_, sym, ap, _∙_}
+use Prim.Native.Nat.{ℕ, _+_, _*_, _/_, min}
+use native.Mathlib.Omega.{arith}
+use borrow.Author.Needs.{needs}
+use Rattle.step.proofs.kept.Statement.{statement}
+use Rattle.step.proofs.kept.Tie as tie
+
+extends-requires : tie.Need-extends-requires
+extends-requires c κs = search needs
+
+add-t11 : tie.Need-add-t11
+add-t11 c = search needs
+
+returns : tie.Need-returns
+returns c = rw (c .before .before .before .if1 .taken, c .before .before .if2 .taken, sym (c .before .extends .ensures) ∙ c .if3 .taken)
+
+returns-2 : tie.Need-returns-2
+returns-2 c = rw (c .before .before .before .if1 .taken, c .before .before .if2 .taken, sym (c .before .extends .ensures) ∙ c .if3 .left)
+
+returns-3 : tie.Need-returns-3
+returns-3 c = rw (c .before .if1 .taken, c .if2 .left)
+
+mul-end : tie.Need-mul-end
+mul-end c = search needs
+
+add-end : tie.Need-add-end
+add-end c = search needs
+
+returns-4 : tie.Need-returns-4
+returns-4 c =
+    let a = c .before .before .args in
+    let e : min (a .last) (6 * (a .n / 6) + 5) ≡ 6 * (a .n / 6) + 5 = omega arith in
+    rw (c .before .if1 .left, e)
+
+returns-5 : tie.Need-returns-5
+returns-5 c =
+    let a = c .before .before .args in
+    let e : min (a .last) (6 * (a .n / 6) + 5) ≡ a .last = omega arith in
+    rw (c .before .if1 .left, e)
+
+pub kept-spec : {M : Type 1} → statement M
+kept-spec =
+    tie.close
+    (tie.spec
+    extends-requires
+    add-t11
+    returns
+    returns-2
+    returns-3
+    mul-end
+    add-end
+    returns-4
+    returns-5)

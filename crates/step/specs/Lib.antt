@@ -1,0 +1,2 @@
+-- What the rules' functions may be asked.
+pub mod Range
