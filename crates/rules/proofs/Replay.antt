@@ -4,7 +4,7 @@ use mathlib.Core.Path.{_≡_, refl, sym, ap, _∙_, subst}
 use mathlib.Core.Bool.{Bool, true, false, not, cond, _&&_}
 use mathlib.Core.List.{List, [], _∷_, foldl}
 use Prim.Native.Nat.{ℕ, zero, suc, _+_, _≤_, _<_}
-use native.Mathlib.Nat.{add-zero, zero-add, add-suc, suc-add}
+use native.Mathlib.Nat.{zero-add}
 use native.Mathlib.Omega.{arith}
 use lib.Dec.{T, eqb}
 use lib.IntN.{pos}
@@ -15,9 +15,10 @@ use Rattle.rules.specs.declared.Tracker.{Tracker}
 use Rattle.rules.specs.Interval.{place, fresh, settings, nextOf, stepOf}
 use Rattle.rules.specs.History.{stateAfter}
 use Rattle.rules.specs.Record.{number, present, aheadResidue, flag, eventOf}
-use Rattle.rules.specs.Tracker.{Opening, opens, firstOf, sharesOf, opened, openOf, blank, directionOf, stepFrom, advanced, accepts, intervalOf, after, run}
+use Rattle.rules.specs.Tracker.{Opening, opens, firstOf, sharesOf, opened, openOf, blank, directionOf, stepAll, advanced, accepts, intervalOf, after, run}
 use Rattle.rules.specs.Claim.{awaitedAfter, hear, accepted, history}
 use Rattle.rules.proofs.Accepted.{Sound, accepted-is, opened-is}
+use Rattle.rules.proofs.Each.{length-map, map-at}
 use Rattle.rules.proofs.Turn.{nextNumber, InTurn}
 
 -- a relation that two steps keep, two folds keep
@@ -27,16 +28,13 @@ fold-keeps R f g k (c ∷ l) a b r = fold-keeps R f g k l (f a c) (g b c) (k a b
 
 -- the eight directions are stepped alike
 module _ (shares b : List ℕ) where
-  length-step : (d : ℕ) (ss : List Direction) → length (stepFrom shares b d ss) ≡ length ss
-  unfolding stepFrom
-  length-step d [] = refl
-  length-step d (s ∷ ss) = ap suc (length-step (suc d) ss)
+  length-step : (ss : List Direction) → length (stepAll shares b ss) ≡ length ss
+  unfolding stepAll
+  length-step ss = length-map (λ d s. stepOf settings d (eventOf shares d b) s) 0 ss
 
-  step-at : (d : ℕ) (ss : List Direction) (i : ℕ) → i < length ss → getD (stepFrom shares b d ss) i blank ≡ stepOf settings (d + i) (eventOf shares (d + i) b) (getD ss i blank)
-  unfolding stepFrom
-  step-at d [] i h = absurd (omega arith)
-  step-at d (s ∷ ss) zero h = rw add-zero
-  step-at d (s ∷ ss) (suc i) h = rw (add-suc, ← suc-add) (step-at (suc d) ss i (omega arith))
+  step-at : (ss : List Direction) (d : ℕ) → d < length ss → getD (stepAll shares b ss) d blank ≡ stepOf settings d (eventOf shares d b) (getD ss d blank)
+  unfolding stepAll
+  step-at ss d h = map-at (λ d s. stepOf settings d (eventOf shares d b) s) 0 ss blank d h ∙ rw zero-add
 
 -- at flag 0 there is no estimate
 silent : (shares : List ℕ) (d : ℕ) (b : List ℕ) → T (not (eventOf shares d b .flag)) → eventOf shares d b .next .0 ≡ pos 0
@@ -106,8 +104,8 @@ module _ (o : Opening) where
             shows = refl;
             early = omega (arith, sound .in-range);
             shares = r .shares;
-            eight = length-step (t .shares) b 0 (t .directions) ∙ r .eight;
-            each = λ d lt. rw (step-at (t .shares) b 0 (t .directions) d (omega (arith, r .eight)), zero-add, r .each d lt, r .shares);
+            eight = length-step (t .shares) b (t .directions) ∙ r .eight;
+            each = λ d lt. rw (step-at (t .shares) b (t .directions) d (omega (arith, r .eight)), r .each d lt, r .shares);
             turns = λ d. (event-number (sharesOf o) d b ∙ sound .in-turn ∙ r .awaits ∙ sym (next-is d bs), silent (sharesOf o) d b, r .turns d);
             sound = (subst (λ (a : ℕ). Sound a b) (sym (sound .in-turn)) sound, r .sound);
           }

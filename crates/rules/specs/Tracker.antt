@@ -43,13 +43,17 @@ opened o = tracker (sharesOf o) (firstOf o) (firstOf o) (replicate 8 fresh)
 unfoldable pub openOf : Opening → Answer
 openOf o = record { outcome = openOutcome (o .first) (o .shares); tracker = opened o }
 
--- The states of the directions from d on, each after one interval more.
-unfoldable pub stepFrom : List ℕ → List ℕ → ℕ → List Direction → List Direction
-stepFrom shares b d [] = []
-stepFrom shares b d (s ∷ ss) = stepOf settings d (eventOf shares d b) s ∷ stepFrom shares b (suc d) ss
+-- f of each element of a list, with its number, counted from k.
+abbrev pub mapFrom : {A : Type 0} → (ℕ → A → A) → ℕ → List A → List A
+mapFrom f k [] = []
+mapFrom f k (x ∷ xs) = f k x ∷ mapFrom f (suc k) xs
+
+-- The states of the eight directions after one interval more, all by one step.
+unfoldable pub stepAll : List ℕ → List ℕ → List Direction → List Direction
+stepAll shares b ss = mapFrom (λ d s. stepOf settings d (eventOf shares d b) s) 0 ss
 
 unfoldable pub advanced : Tracker → List ℕ → Tracker
-advanced t b = tracker (t .shares) (number b) (suc (number b)) (stepFrom (t .shares) b 0 (t .directions))
+advanced t b = tracker (t .shares) (number b) (suc (number b)) (stepAll (t .shares) b (t .directions))
 
 -- An interval call. A refusal returns only its number, beside the tracker as it was.
 abbrev pub accepts : ℕ → List ℕ → Bool
