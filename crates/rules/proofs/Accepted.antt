@@ -4,6 +4,7 @@ use mathlib.Core.Path.{_≡_, refl, sym, ap}
 use mathlib.Core.Bool.{Bool, true, false, not, cond, _||_, false≢true}
 use mathlib.Core.List.{List, [], _∷_}
 use mathlib.Core.Logic.{_↔_}
+use mathlib.Core.Option.{Option, none, some}
 use Prim.Native.Nat.{ℕ, _≤_, _<_}
 use borrow.Author.Tests.{eqb-true, eq-eqb, ltb-false, le-ltb, leb-true, le-leb, not-false}
 use lib.Dec.{eqb, ltb, leb}
@@ -12,7 +13,7 @@ use Rattle.rules.specs.declared.Outcome.{Outcome}
 use Rattle.rules.specs.declared.Outcome.the-variants.{Accepted, Refused}
 use Rattle.rules.specs.Interval.{place}
 use Rattle.rules.specs.Record.{number}
-use Rattle.rules.specs.Refusal.{Condition, _⇒_, judged, isAccepted, each, lastNumber, badFlags, badStatus, badPrice, badFlow, badAhead, intervalConditions, intervalOutcome, shareOk, openConditions, openOutcome}
+use Rattle.rules.specs.Refusal.{numberOf, Condition, _⇒_, judged, numberMet, isAccepted, each, lastNumber, badFlags, badStatus, badPrice, badFlow, badAhead, intervalConditions, intervalOutcome, shareOk, openConditions, openOutcome}
 use Rattle.rules.specs.Tracker.{Opening, opens, accepts}
 use Rattle.rules.proofs.Scan.{both-false, each-at, each-by}
 
@@ -31,6 +32,15 @@ accepted-iff (c ∷ cs) = go (c .met) (accepted-iff cs)
         → (cond m (Refused (c .number)) (judged cs) ≡ Accepted) ↔ ((m ≡ false) × NoneMet cs)
     go true rest = (λ e. absurd (false≢true (ap isAccepted e)), λ n. absurd (false≢true (sym (n .0))))
     go false rest = (λ e. (refl, rest .0 e), λ n. rest .1 (n .1))
+
+-- The number of an outcome is that of the first condition met.
+pub number-met : (cs : List Condition) → numberOf (judged cs) ≡ numberMet cs
+number-met [] = refl
+number-met (c ∷ cs) = go (c .met) (number-met cs)
+  where
+    go : (m : Bool) → numberOf (judged cs) ≡ numberMet cs → numberOf (cond m (Refused (c .number)) (judged cs)) ≡ cond m (some (c .number)) (numberMet cs)
+    go true rest = refl
+    go false rest = rest
 
 is-accepted : (o : Outcome) → isAccepted o ≡ true → o ≡ Accepted
 is-accepted Accepted e = refl

@@ -5,8 +5,9 @@ use mathlib.Core.List.{List, [], _∷_, _++_, foldl-append}
 use Prim.Native.Nat.{ℕ}
 use Rattle.rules.specs.declared.Tracker.{Tracker}
 use Rattle.rules.specs.Tracker.{Opening, openOf, after, run}
-use Rattle.rules.specs.Claim.{Came, Claim}
+use Rattle.rules.specs.Claim.{Came, Claim, accepted}
 use Rattle.rules.proofs.Demand.{demand3}
+use Rattle.rules.proofs.Replay.{Replays, replays}
 
 pub came-open : (o : Opening) → Came (openOf o .tracker)
 unfolding run
@@ -27,3 +28,7 @@ came-after t c b = record {
 -- demand 3 holds of every tracker that an opening and a list of calls left
 pub claim : (t : Tracker) (o : Opening) (calls : List (List ℕ)) → t ≡ run o calls → Claim o calls t
 claim t o calls e = rw e (demand3 o calls)
+
+-- such a tracker is the accepted records replayed
+pub replayed : (t : Tracker) (c : Came t) → Replays (c .opening) t (accepted (c .opening) (c .calls))
+replayed t c = rw (c .is) (replays (c .opening) (c .calls))

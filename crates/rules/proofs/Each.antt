@@ -2,7 +2,7 @@
 -- Assumes nothing.
 use mathlib.Core.Path.{_≡_, refl, ap, sym, _∙_}
 use mathlib.Core.List.{List, [], _∷_}
-use Prim.Native.Nat.{ℕ, zero, suc, _+_, _<_}
+use Prim.Native.Nat.{ℕ, zero, suc, _+_, _≤_, _<_}
 use native.Mathlib.Nat.{add-zero, zero-add, add-suc, suc-add}
 use native.Mathlib.Numerals.{add-one}
 use native.Mathlib.Omega.{arith}
@@ -55,3 +55,8 @@ module _ {A : Type 0} (f : ℕ → A → A) where
   -- and after the last turn all are taken.
   pub whole : (i n : ℕ) (xs : List A) → length xs ≡ n → i ≡ n → partly 0 i xs ≡ mapFrom f 0 xs
   whole i n xs e q = ap (λ (m : ℕ). partly 0 m xs) (q ∙ sym e) ∙ all-from 0 xs
+
+-- what two functions agree on below the length, they make of a list alike
+pub map-same : {A : Type 0} (f g : ℕ → A → A) (k n : ℕ) → ((d : ℕ) → d < n → (x : A) → f d x ≡ g d x) → (xs : List A) → k + length xs ≤ n → mapFrom f k xs ≡ mapFrom g k xs
+map-same f g k n h [] l = refl
+map-same f g k n h (x ∷ xs) l = λ i. h k (omega arith) x i ∷ map-same f g (suc k) n h xs (omega arith) i

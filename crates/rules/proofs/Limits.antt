@@ -37,7 +37,8 @@ use Rattle.rules.proofs.Sum.{NonPos, none, some, nonpos-plus, nonpos-lo
 use Rattle.rules.proofs.Span.{Span}
 use Rattle.rules.proofs.Turn.{nextNumber, InTurn}
 use Rattle.rules.proofs.OneDirection.{sum-of, span-of, Got}
-use Rattle.rules.proofs.Replay.{Replays, AllSound, replays, next-is}
+use Rattle.rules.proofs.Replay.{Replays, AllSound, next-is}
+use Rattle.rules.proofs.Came.{replayed}
 
 -- ---- sums
 abs-plus : {a b : ℤ} → NonPos a → NonPos b → natAbs (a +ℤ b) ≡ natAbs a + natAbs b
@@ -156,7 +157,7 @@ counted-on first (e ∷ es) t = omega (arith, counted-on first es (t .2), t .0)
 
 -- ---- of the tracker
 module _ (o : Opening) (d : ℕ) where
-  event-size : (b : List ℕ) → Sound (number b) b → (natAbs (eventOf (sharesOf o) d b .residue .0) ≤ highestResidue) × (natAbs (eventOf (sharesOf o) d b .next .0) ≤ highestNext)
+  pub event-size : (b : List ℕ) → Sound (number b) b → (natAbs (eventOf (sharesOf o) d b .residue .0) ≤ highestResidue) × (natAbs (eventOf (sharesOf o) d b .next .0) ≤ highestNext)
   unfolding eventOf nextOf
   event-size b s =
       let shares = share-bound o in (
@@ -209,7 +210,7 @@ pub bounds : (t : Tracker) → Came t → TrackerBounds t
 bounds t came =
     let o = came .opening in
     let bs = accepted o (came .calls) in
-    let r : Replays o t bs = rw (came .is) (replays o (came .calls)) in
+    let r = replayed t came in
     record {
       awaited = rw (r .awaits) (r .early);
       each = λ d lt. rw (r .each d lt, r .awaits) (state-bounds o d t bs r);

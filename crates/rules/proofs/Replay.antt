@@ -45,7 +45,7 @@ silent shares d b n = at-flag (flag shares b d) (number b) (present b) (aheadRes
     at-flag true n p r t = absurd t
     at-flag false n p r t = refl
 
-event-number : (shares : List ℕ) (d : ℕ) (b : List ℕ) → eventOf shares d b .n ≡ number b
+pub event-number : (shares : List ℕ) (d : ℕ) (b : List ℕ) → eventOf shares d b .n ≡ number b
 unfolding eventOf
 event-number shares d b = refl
 

@@ -34,6 +34,11 @@ abbrev pub judged : List Condition → Outcome
 judged [] = Accepted
 judged (c ∷ cs) = cond (c .met) (Refused (c .number)) (judged cs)
 
+-- The same as a number: that of the first condition met, or none.
+abbrev pub numberMet : List Condition → Option ℕ
+numberMet [] = none
+numberMet (c ∷ cs) = cond (c .met) (some (c .number)) (numberMet cs)
+
 -- f holds of each number below n.
 unfoldable pub each : ℕ → (ℕ → Bool) → Bool
 each zero f = true
@@ -108,5 +113,8 @@ unfoldable pub openOutcome : ℕ → List ℕ → Outcome
 openOutcome first shares = judged (openConditions first shares)
 
 -- Row: 17 direction above 7.
+unfoldable pub rowConditions : ℕ → List Condition
+rowConditions d = ltb 7 d ⇒ 17 ∷ []
+
 unfoldable pub rowOutcome : ℕ → Outcome
-rowOutcome d = judged (ltb 7 d ⇒ 17 ∷ [])
+rowOutcome d = judged (rowConditions d)

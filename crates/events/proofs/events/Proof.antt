@@ -15,23 +15,11 @@ use Rattle.rules.specs.Interval.{loopSum}
 use Rattle.rules.specs.Record.{residue, eventOf}
 use Rattle.rules.proofs.Each.{partly, turn, whole}
 use Rattle.residue.proofs.Directions.{at, each-size, in-range-size, loop-sum-is}
-use Rattle.events.specs.Event.{eventFrom}
+use Rattle.events.specs.Event.{eventFrom, noEvent}
 use Rattle.events.proofs.Says.{interval-in-range, event-is, directions-same}
 use Rattle.events.proofs.Says as says
 use Rattle.events.proofs.events.Statement.{statement}
 use Rattle.events.proofs.events.Tie as tie
-
-abbrev blank : Event
-blank = record {
-  n = 0;
-  flag = false;
-  residue = cents (pos 0);
-  next = cents (pos 0);
-  review = false;
-  status = 0;
-  blocked = false;
-  target = hundredths (pos 0);
-}
 
 -- what a turn stores, whatever stood there
 abbrev told : List ℕ → List Cents → List Cents → Cents → ℕ → Event → Event
@@ -71,7 +59,7 @@ loop-less : tie.Need-loop-less Inv-loop μ-loop
 loop-less c = search needs
 
 loop-again : tie.Need-loop-again Inv-loop μ-loop
-loop-again c = (search needs, turn (told (c .before .before .before .before .before .before .before .args .s .now) (c .before .before .before .before .before .interval-residues .result) (c .before .before .before .before .ahead-residues .result) (c .before .before .before .loop-sum .result)) (c .before .before .loop .d) _ blank _ _ (search needs) (c .before .before .loop .inv .1) (c .event .ensures))
+loop-again c = (search needs, turn (told (c .before .before .before .before .before .before .before .args .s .now) (c .before .before .before .before .before .interval-residues .result) (c .before .before .before .before .ahead-residues .result) (c .before .before .before .loop-sum .result)) (c .before .before .loop .d) _ noEvent _ _ (search needs) (c .before .before .loop .inv .1) (c .event .ensures))
 
 returns : tie.Need-returns Inv-loop μ-loop
 returns c =

@@ -1,0 +1,50 @@
+-- Every caller meets what the calls ask: an opening gives a tracker that came from an opening and calls, and a call keeps it.
+-- Assumes nothing.
+use mathlib.Core.List.{List, [], _∷_, _++_}
+use mathlib.Core.Path.{_≡_, refl, sym, ap, _∙_}
+use Prim.Native.Nat.{ℕ, _<_}
+use native.Mathlib.Omega.{arith}
+use borrow.Author.Tests.{le-ltb}
+use Rattle.rules.specs.declared.Tracker.{Tracker}
+use Rattle.rules.specs.declared.Answer.{Answer}
+use Rattle.rules.specs.declared.RowAnswer.{RowAnswer}
+use Rattle.rules.specs.Refusal.{openConditions, openOutcome, intervalConditions, intervalOutcome, rowConditions, rowOutcome}
+use Rattle.rules.specs.Tracker.{Opening, openOf, intervalOf, rowOf, rowAnswer, after, run}
+use Rattle.rules.proofs.Accepted.{number-met}
+use Rattle.rules.proofs.Came as rules
+use Rattle.tracker.specs.Promise.{Came, OpenPromise, IntervalPromise, RowPromise}
+
+pub came-open : (o : Opening) → Came (openOf o .tracker)
+came-open = rules.came-open
+
+pub came-interval : (t : Tracker) → Came t → (b : List ℕ) → Came (intervalOf t b .tracker)
+came-interval = rules.came-after
+
+-- what the equations of the calls bring with them
+pub open-promise : (o : Opening) {r : Answer} → r ≡ openOf o → OpenPromise o r
+unfolding run openOf openOutcome
+open-promise o e = rw e (record { is = refl; number = number-met (openConditions (o .first) (o .shares)); came = came-open o; claim = rules.claim (openOf o .tracker) o [] refl })
+
+pub interval-promise : (t : Tracker) → Came t → (b : List ℕ) {r : Answer} → r ≡ intervalOf t b → IntervalPromise t b r
+unfolding intervalOf intervalOutcome
+interval-promise t came b e =
+    rw e (record {
+      is = refl;
+      number = number-met (intervalConditions (t .awaited) b);
+      came = came-interval t came b;
+      claim = λ o calls q. rules.claim (after t b) o (calls ++ (b ∷ [])) (ap (λ (x : Tracker). after x b) q ∙ rules.run-on o calls b);
+    })
+
+-- the row of a direction that is there is shown
+pub row-shown : (t : Tracker) (d : ℕ) → d < 8 → rowAnswer t d .row ≡ rowOf t d
+unfolding rowAnswer rowOutcome rowConditions
+row-shown t d l = rw (le-ltb 7 d (omega arith))
+
+pub row-promise : (t : Tracker) → Came t → (d : ℕ) {r : RowAnswer} → r ≡ rowAnswer t d → RowPromise t d r
+unfolding rowAnswer rowOutcome
+row-promise t came d e =
+    rw e (record {
+      is = refl;
+      number = number-met (rowConditions d);
+      worked = λ o calls q l. row-shown t d l ∙ rules.claim t o calls q .each d l .is-worked;
+    })
