@@ -13,7 +13,7 @@ use lib.ListN.{length, getD, replicate}
 use lib.Signed.{ltZ, leZ-yes}
 use Rattle.signed.specs.Range.{negative, eqZ, Within}
 use Rattle.signed.proofs.Parts.{signed}
-use Rattle.signed.proofs.Calc.{abs-add}
+use Rattle.signed.proofs.Calc.{abs-add, inside}
 use Rattle.units.specs.declared.Cents.{Cents}
 use Rattle.units.specs.declared.Hundredths.{Hundredths}
 use Rattle.units.specs.Units.{cents, hundredths, lowerOfZero, _+ʰ_}
@@ -27,9 +27,9 @@ use Rattle.rules.specs.declared.Tracker.{Tracker}
 use Rattle.rules.specs.Interval.{Settings, settings, place, clearsAt, swamped, isSwamped, turned, cleared, settled, grown, rule1, rule2, amount, nextOf, held, counted, statusUnbound, statusViolated, quiet, rule5, lower, higher, highestClamp, clampFrom, band, stepFor, offsetFor, rule7, sumsAfter, managedAfter, suspendedAfter, stepOf}
 use Rattle.rules.specs.History.{clearing, sinceClearing, sumNegative, sumSince, stateAfter}
 use Rattle.rules.specs.Record.{number, present, prices, lines, aheadPrices, aheadLines, flag, residue, aheadResidue, eventOf}
-use Rattle.rules.specs.Tracker.{Opening, firstOf, sharesOf, directionOf}
+use Rattle.rules.specs.Tracker.{Opening, firstOf, sharesOf, directionOf, rowOf}
 use Rattle.rules.specs.Claim.{awaitedAfter, accepted, history, Came}
-use Rattle.rules.specs.Bounds.{highestResidue, highestNext, highestSum, PeriodBounds, boundedPeriod, Bounds}
+use Rattle.rules.specs.Bounds.{highestResidue, highestNext, highestSum, PeriodBounds, boundedPeriod, Bounds, RowBounds}
 use Rattle.rules.proofs.Accepted.{Sound}
 use Rattle.rules.proofs.Ranges.{interval-ranged, ahead-ranged, share-bound}
 use Rattle.rules.proofs.Size.{residue-size, lower-size, cond-size}
@@ -37,7 +37,7 @@ use Rattle.rules.proofs.Sum.{NonPos, none, some, nonpos-plus, nonpos-lo
 use Rattle.rules.proofs.Span.{Span}
 use Rattle.rules.proofs.Turn.{nextNumber, InTurn}
 use Rattle.rules.proofs.OneDirection.{sum-of, span-of, Got}
-use Rattle.rules.proofs.Replay.{Replays, AllSound, next-is}
+use Rattle.rules.proofs.Replay.{Replays, AllSound, shownAfter, first-early, next-is}
 use Rattle.rules.proofs.Came.{replayed}
 
 -- ---- sums
@@ -201,10 +201,15 @@ module _ (o : Opening) (d : ℕ) where
         clamp = clamp-size settings d (offset-size 8 d) es;
       }
 
--- Any tracker that came from an opening and calls: the awaited number, and what it keeps of each direction.
+-- Any tracker that came from an opening and calls: its numbers, and what it keeps of each direction.
 pub record TrackerBounds (t : Tracker) : Type 0 where
+  pub shown : t .shown ≤ 1051199
   pub awaited : t .awaited ≤ 1051200
   pub each : (d : ℕ) → d < 8 → Bounds (t .awaited) (directionOf t d)
+
+shown-size : (o : Opening) (bs : List (List ℕ)) → AllSound o bs → shownAfter o bs ≤ 1051199
+shown-size o [] s = first-early o
+shown-size o (b ∷ bs) s = s .0 .in-range
 
 pub bounds : (t : Tracker) → Came t → TrackerBounds t
 bounds t came =
@@ -212,6 +217,24 @@ bounds t came =
     let bs = accepted o (came .calls) in
     let r = replayed t came in
     record {
+      shown = rw (r .shows) (shown-size o bs (r .sound));
       awaited = rw (r .awaits) (r .early);
       each = λ d lt. rw (r .each d lt, r .awaits) (state-bounds o d t bs r);
+    }
+
+-- and its rows
+pub row-bounds : (t : Tracker) → Came t → (d : ℕ) → d < 8 → RowBounds (rowOf t d)
+unfolding rowOf
+row-bounds t came d l =
+    let all = bounds t came in
+    let b = all .each d l in
+    let s = directionOf t d .sums in
+    record {
+      n = all .shown;
+      direction = l;
+      previous = b .previous;
+      current = b .current;
+      amount = le-trans (abs-add (s .previous .0) (s .current .0)) (b .amount);
+      next = b .next;
+      clamp = inside (b .clamp) .size;
     }

@@ -81,16 +81,16 @@ module _ (o : Opening) where
   fresh-at (suc k) zero h = refl
   fresh-at (suc k) (suc d) h = fresh-at k d (omega arith)
 
-  first-early : firstOf o ≤ 1051200
+  pub first-early : firstOf o ≤ 1051199
   first-early = go (opens o) refl
     where
-      go : (y : Bool) → opens o ≡ y → cond y (o .first) 0 ≤ 1051200
+      go : (y : Bool) → opens o ≡ y → cond y (o .first) 0 ≤ 1051199
       go true e = omega (arith, opened-is o e .in-range)
       go false e = omega arith
 
   pub start : Replays (openOf o .tracker) []
   unfolding openOf history stateAfter
-  start = record { awaits = refl; shows = refl; early = first-early; shares = refl; eight = refl; each = λ d h. fresh-at 8 d h; turns = λ _. tt; sound = tt }
+  start = record { awaits = refl; shows = refl; early = omega (arith, first-early); shares = refl; eight = refl; each = λ d h. fresh-at 8 d h; turns = λ _. tt; sound = tt }
 
   pub one : (t : Tracker) (bs : List (List ℕ)) (b : List ℕ) → Replays t bs → Replays (after t b) (hear o bs b)
   unfolding intervalOf hear history stateAfter advanced

@@ -1,11 +1,13 @@
 -- How large the numbers of a tracker get: they keep the code from overflowing, and a line of the listing short.
 use mathlib.Core.Path.{_≡_}
-use Prim.Native.Nat.{ℕ, _+_, _*_, _≤_}
+use Prim.Native.Nat.{ℕ, _+_, _*_, _≤_, _<_}
 use lib.IntN.{pos, natAbs}
 use Rattle.signed.specs.Range.{Within}
 use Rattle.rules.specs.declared.Period.{Period}
 use Rattle.rules.specs.declared.Period.the-variants.{None, Held}
 use Rattle.rules.specs.declared.Direction.{Direction}
+use Rattle.rules.specs.declared.Row.{Row}
+use Rattle.rules.specs.Refusal.{lastNumber}
 
 -- cents: a residue, an estimate, and a sum of residues over all intervals, 0 to 1,051,199
 abbrev pub highestResidue : ℕ
@@ -38,3 +40,13 @@ pub record Bounds (a : ℕ) (s : Direction) : Type 0 where
   pub unbound : s .counts .unbound ≤ 3
   pub violated : s .counts .violated ≤ 3
   pub clamp : Within (pos 0) (pos 2000000) (s .clamp .0)
+
+-- what a row shows
+pub record RowBounds (r : Row) : Type 0 where
+  pub n : r .n ≤ lastNumber
+  pub direction : r .direction < 8
+  pub previous : natAbs (r .previous .0) ≤ highestSum
+  pub current : natAbs (r .current .0) ≤ highestSum
+  pub amount : natAbs (r .amount .0) ≤ highestSum
+  pub next : natAbs (r .next .0) ≤ highestNext
+  pub clamp : natAbs (r .clamp .0) ≤ 2000000

@@ -1,4 +1,5 @@
 -- Every caller meets what the calls ask: an opening gives a tracker that came from an opening and calls, and a call keeps it.
+-- With them go two laws of conditions and tests.
 -- Assumes nothing.
 use mathlib.Core.List.{List, [], _∷_, _++_}
 use mathlib.Core.Path.{_≡_, refl, sym, ap, _∙_}
@@ -12,6 +13,9 @@ use Rattle.rules.specs.Refusal.{openConditions, openOutcome, intervalConditions
 use Rattle.rules.specs.Tracker.{Opening, openOf, intervalOf, rowOf, rowAnswer, after, run}
 use Rattle.rules.proofs.Accepted.{number-met}
 use Rattle.rules.proofs.Came as rules
+use Rattle.rules.proofs.Limits.{row-bounds}
+pub use Rattle.rules.proofs.Scan.{both-false}
+pub use Rattle.rules.proofs.Accepted.{accepted-iff}
 use Rattle.tracker.specs.Promise.{Came, OpenPromise, IntervalPromise, RowPromise}
 
 pub came-open : (o : Opening) → Came (openOf o .tracker)
@@ -46,5 +50,6 @@ row-promise t came d e =
     rw e (record {
       is = refl;
       number = number-met (rowConditions d);
+      bounded = λ l. rw (row-shown t d l) (row-bounds t came d l);
       worked = λ o calls q l. row-shown t d l ∙ rules.claim t o calls q .each d l .is-worked;
     })

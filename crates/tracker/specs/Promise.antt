@@ -1,14 +1,24 @@
--- What crates above the tracker may cite: what its three calls return for every input, and demand 3 as they promise it.
+-- What crates above the tracker may cite, and nothing else below it: the types of its calls, what the three calls return for every
+-- input, and demand 3 as they promise it.
 use mathlib.Core.List.{List, [], _∷_, _++_}
 use mathlib.Core.Path.{_≡_}
 use Prim.Native.Nat.{ℕ, _<_}
-use Rattle.rules.specs.declared.Tracker.{Tracker}
-use Rattle.rules.specs.declared.Answer.{Answer}
-use Rattle.rules.specs.declared.RowAnswer.{RowAnswer}
-use Rattle.rules.specs.Refusal.{numberOf, numberMet, openConditions, intervalConditions, rowConditions}
-use Rattle.rules.specs.Tracker.{Opening, firstOf, openOf, intervalOf, rowAnswer, run}
+use Rattle.rules.specs.Tracker.{firstOf, run}
 use Rattle.rules.specs.Claim.{Claim, accepted, history, workedRow}
+pub use Rattle.rules.specs.declared.Tracker.{Tracker}
+pub use Rattle.rules.specs.declared.Row.{Row}
+pub use Rattle.rules.specs.declared.Outcome.{Outcome}
+pub use Rattle.rules.specs.declared.Outcome.the-variants.{Accepted, Refused}
+pub use Rattle.rules.specs.declared.Answer.{Answer}
+pub use Rattle.rules.specs.declared.RowAnswer.{RowAnswer}
+-- the number of a record and how bytes make it, and how conditions in their order make an outcome
+unfoldable pub use Rattle.rules.specs.Record.{u32At}
+pub use Rattle.rules.specs.Record.{number}
+pub use Rattle.rules.specs.Refusal.{numberOf, isAccepted, Condition, _⇒_, judged, numberMet, openConditions, intervalConditions, rowConditions}
+-- the calls, and that a tracker came from an opening and calls
+pub use Rattle.rules.specs.Tracker.{Opening, openOf, intervalOf, rowAnswer}
 pub use Rattle.rules.specs.Claim.{Came}
+pub use Rattle.rules.specs.Bounds.{highestSum, highestNext, RowBounds}
 
 abbrev pub opening : ℕ → List ℕ → Opening
 opening first shares = record { first = first; shares = shares }
@@ -33,4 +43,5 @@ pub record IntervalPromise (t : Tracker) (b : List ℕ) (r : Answer) : Type 0 wh
 pub record RowPromise (t : Tracker) (d : ℕ) (r : RowAnswer) : Type 0 where
   pub is : r ≡ rowAnswer t d
   pub number : numberOf (r .outcome) ≡ numberMet (rowConditions d)
+  pub bounded : d < 8 → RowBounds (r .row)
   pub worked : (o : Opening) (calls : List (List ℕ)) → t ≡ run o calls → d < 8 → r .row ≡ workedRow (firstOf o) d (history o d (accepted o calls))

@@ -1,0 +1,19 @@
+-- `journal::byte` meets its contract: an element of a slice of bytes is below 256.
+-- Assumes nothing.
+use mathlib.Core.Path.{refl}
+use native.Mathlib.Omega.{arith}
+use borrow.Author.Needs.{needs}
+use Rattle.journal.proofs.byte.Statement.{statement}
+use Rattle.journal.proofs.byte.Tie as tie
+
+shared-slice-read-result : tie.Need-shared-slice-read-result
+shared-slice-read-result c = search needs
+
+cast-result : tie.Need-cast-result
+cast-result c = omega (arith, c .shared-slice-known .given (c .before .args .at))
+
+returns : tie.Need-returns
+returns c = record { is = refl; small = omega (arith, c .shared-slice-known .given (c .before .args .at)) }
+
+pub byte-spec : {M : Type 1} → statement M
+byte-spec = tie.close (tie.spec shared-slice-read-result cast-result returns)

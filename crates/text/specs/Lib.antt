@@ -1,0 +1,3 @@
+-- Text as lists of bytes.
+pub mod Text
+pub mod Ascii
