@@ -31,56 +31,48 @@ const UNBOUND: u8 = 0;
 
 const VIOLATED: u8 = 2;
 
-// By direction, the step for each band of net (000, table 2).
+// The steps in the four bands of net (000, table 2): directions 0 to 3,
+const STEPS_QNI_VNI: [Hundredths; 4] = [
+    Hundredths(-10_000),
+    Hundredths(-5_000),
+    Hundredths(0),
+    Hundredths(3_000),
+];
+
+// 4,
+const STEPS_VIC_SA: [Hundredths; 4] = [
+    Hundredths(-5_000),
+    Hundredths(-3_000),
+    Hundredths(0),
+    Hundredths(3_000),
+];
+
+// 5,
+const STEPS_SA_VIC: [Hundredths; 4] = [
+    Hundredths(-3_000),
+    Hundredths(-2_500),
+    Hundredths(0),
+    Hundredths(2_500),
+];
+
+// 6 and 7.
+const STEPS_NSW_SA: [Hundredths; 4] = [
+    Hundredths(-7_500),
+    Hundredths(-4_000),
+    Hundredths(0),
+    Hundredths(3_000),
+];
+
+// By direction.
 const STEPS: [[Hundredths; 4]; 8] = [
-    [
-        Hundredths(-10_000),
-        Hundredths(-5_000),
-        Hundredths(0),
-        Hundredths(3_000),
-    ],
-    [
-        Hundredths(-10_000),
-        Hundredths(-5_000),
-        Hundredths(0),
-        Hundredths(3_000),
-    ],
-    [
-        Hundredths(-10_000),
-        Hundredths(-5_000),
-        Hundredths(0),
-        Hundredths(3_000),
-    ],
-    [
-        Hundredths(-10_000),
-        Hundredths(-5_000),
-        Hundredths(0),
-        Hundredths(3_000),
-    ],
-    [
-        Hundredths(-5_000),
-        Hundredths(-3_000),
-        Hundredths(0),
-        Hundredths(3_000),
-    ],
-    [
-        Hundredths(-3_000),
-        Hundredths(-2_500),
-        Hundredths(0),
-        Hundredths(2_500),
-    ],
-    [
-        Hundredths(-7_500),
-        Hundredths(-4_000),
-        Hundredths(0),
-        Hundredths(3_000),
-    ],
-    [
-        Hundredths(-7_500),
-        Hundredths(-4_000),
-        Hundredths(0),
-        Hundredths(3_000),
-    ],
+    STEPS_QNI_VNI,
+    STEPS_QNI_VNI,
+    STEPS_QNI_VNI,
+    STEPS_QNI_VNI,
+    STEPS_VIC_SA,
+    STEPS_SA_VIC,
+    STEPS_NSW_SA,
+    STEPS_NSW_SA,
 ];
 
 pub fn is_swamped(clamp: Hundredths) -> bool
