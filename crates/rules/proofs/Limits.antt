@@ -232,9 +232,11 @@ row-bounds t came d l =
     record {
       n = all .shown;
       direction = l;
+      residue = b .residue;
       previous = b .previous;
       current = b .current;
       amount = le-trans (abs-add (s .previous .0) (s .current .0)) (b .amount);
       next = b .next;
+      net = b .net;
       clamp = inside (b .clamp) .size;
     }

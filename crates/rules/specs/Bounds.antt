@@ -45,8 +45,10 @@ pub record Bounds (a : ℕ) (s : Direction) : Type 0 where
 pub record RowBounds (r : Row) : Type 0 where
   pub n : r .n ≤ lastNumber
   pub direction : r .direction < 8
+  pub residue : natAbs (r .residue .0) ≤ highestResidue
   pub previous : natAbs (r .previous .0) ≤ highestSum
   pub current : natAbs (r .current .0) ≤ highestSum
   pub amount : natAbs (r .amount .0) ≤ highestSum
   pub next : natAbs (r .next .0) ≤ highestNext
+  pub net : natAbs (r .net .0) ≤ highestSum
   pub clamp : natAbs (r .clamp .0) ≤ 2000000

@@ -18,7 +18,7 @@ pub use Rattle.rules.specs.Refusal.{numberOf, isAccepted, Condition, _⇒_, jud
 -- the calls, and that a tracker came from an opening and calls
 pub use Rattle.rules.specs.Tracker.{Opening, openOf, intervalOf, rowAnswer}
 pub use Rattle.rules.specs.Claim.{Came}
-pub use Rattle.rules.specs.Bounds.{highestSum, highestNext, RowBounds}
+pub use Rattle.rules.specs.Bounds.{highestResidue, highestNext, highestSum, RowBounds}
 
 abbrev pub opening : ℕ → List ℕ → Opening
 opening first shares = record { first = first; shares = shares }
