@@ -156,6 +156,12 @@ fn print_all_rows(bytes: &[u8]) {
     run(a.tracker, journal::records(bytes));
 }
 
+fn print_listing(bytes: &[u8]) {
+    let mut out = [0u8; 262144];
+    let k = listing::listing(bytes, &mut out);
+    io::write_all(STDOUT_FILENO, &out[..k]);
+}
+
 // One journal, by the name of its file. A byte more than clampday's buffer is read, so that what is too long is seen to be.
 fn run_case(name: &[u8]) {
     io::write_all(STDOUT_FILENO, b"== ");
@@ -169,6 +175,7 @@ fn run_case(name: &[u8]) {
     let mut input = [0u8; 65537];
     let n = io::read_full(file, &mut input);
     libc::close(file);
+    print_listing(&input[..n]);
     print_all_rows(&input[..n]);
 }
 

@@ -12,7 +12,7 @@ use lib.IntN.{ℤ, pos, negsuc, natAbs, _+ℤ_, +ℤ-idl, +ℤ-idr}
 use lib.ListN.{length, getD, replicate}
 use lib.Signed.{ltZ, leZ-yes}
 use Rattle.signed.specs.Range.{negative, eqZ, Within}
-use Rattle.signed.proofs.Parts.{signed}
+use Rattle.signed.proofs.Parts.{signed, below-zero, ltZ-no}
 use Rattle.signed.proofs.Calc.{abs-add, inside}
 use Rattle.units.specs.declared.Cents.{Cents}
 use Rattle.units.specs.declared.Hundredths.{Hundredths}
@@ -229,6 +229,7 @@ row-bounds t came d l =
     let all = bounds t came in
     let b = all .each d l in
     let s = directionOf t d .sums in
+    let z = directionOf t d .clamp .0 in
     record {
       n = all .shown;
       direction = l;
@@ -239,4 +240,5 @@ row-bounds t came d l =
       next = b .next;
       net = b .net;
       clamp = inside (b .clamp) .size;
+      unsigned = sym (below-zero z) ∙ ltZ-no z (pos 0) (omega (arith, signed, b .clamp .low));
     }

@@ -1,8 +1,9 @@
 -- How large the numbers of a tracker get: they keep the code from overflowing, and a line of the listing short.
+use mathlib.Core.Bool.{false}
 use mathlib.Core.Path.{_≡_}
 use Prim.Native.Nat.{ℕ, _+_, _*_, _≤_, _<_}
 use lib.IntN.{pos, natAbs}
-use Rattle.signed.specs.Range.{Within}
+use Rattle.signed.specs.Range.{negative, Within}
 use Rattle.rules.specs.declared.Period.{Period}
 use Rattle.rules.specs.declared.Period.the-variants.{None, Held}
 use Rattle.rules.specs.declared.Direction.{Direction}
@@ -52,3 +53,4 @@ pub record RowBounds (r : Row) : Type 0 where
   pub next : natAbs (r .next .0) ≤ highestNext
   pub net : natAbs (r .net .0) ≤ highestSum
   pub clamp : natAbs (r .clamp .0) ≤ 2000000
+  pub unsigned : negative (r .clamp .0) ≡ false

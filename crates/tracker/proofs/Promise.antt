@@ -1,5 +1,5 @@
 -- Every caller meets what the calls ask: an opening gives a tracker that came from an opening and calls, and a call keeps it.
--- With them go two laws of conditions and tests.
+-- With them go three laws of conditions and tests.
 -- Assumes nothing.
 use mathlib.Core.List.{List, [], _∷_, _++_}
 use mathlib.Core.Path.{_≡_, refl, sym, ap, _∙_}
@@ -11,11 +11,10 @@ use Rattle.rules.specs.declared.Answer.{Answer}
 use Rattle.rules.specs.declared.RowAnswer.{RowAnswer}
 use Rattle.rules.specs.Refusal.{openConditions, openOutcome, intervalConditions, intervalOutcome, rowConditions, rowOutcome}
 use Rattle.rules.specs.Tracker.{Opening, openOf, intervalOf, rowOf, rowAnswer, after, run}
-use Rattle.rules.proofs.Accepted.{number-met}
 use Rattle.rules.proofs.Came as rules
 use Rattle.rules.proofs.Limits.{row-bounds}
 pub use Rattle.rules.proofs.Scan.{both-false}
-pub use Rattle.rules.proofs.Accepted.{accepted-iff}
+pub use Rattle.rules.proofs.Accepted.{accepted-iff, number-met}
 use Rattle.tracker.specs.Promise.{Came, OpenPromise, IntervalPromise, RowPromise}
 
 pub came-open : (o : Opening) → Came (openOf o .tracker)

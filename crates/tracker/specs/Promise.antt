@@ -7,6 +7,9 @@ use Rattle.rules.specs.Tracker.{firstOf, run}
 use Rattle.rules.specs.Claim.{Claim, accepted, history, workedRow}
 pub use Rattle.rules.specs.declared.Tracker.{Tracker}
 pub use Rattle.rules.specs.declared.Row.{Row}
+pub use Rattle.rules.specs.declared.Period.{Period}
+pub use Rattle.rules.specs.declared.Period.the-variants.{None, Held}
+pub use Rattle.rules.specs.declared.Counts.{Counts}
 pub use Rattle.rules.specs.declared.Outcome.{Outcome}
 pub use Rattle.rules.specs.declared.Outcome.the-variants.{Accepted, Refused}
 pub use Rattle.rules.specs.declared.Answer.{Answer}
@@ -14,7 +17,8 @@ pub use Rattle.rules.specs.declared.RowAnswer.{RowAnswer}
 -- the number of a record and how bytes make it, and how conditions in their order make an outcome
 unfoldable pub use Rattle.rules.specs.Record.{u32At}
 pub use Rattle.rules.specs.Record.{number}
-pub use Rattle.rules.specs.Refusal.{numberOf, isAccepted, Condition, _⇒_, judged, numberMet, openConditions, intervalConditions, rowConditions}
+pub use Rattle.rules.specs.Refusal.{numberOf, isAccepted, Condition, _⇒_, judged, numberMet, rowConditions}
+unfoldable pub use Rattle.rules.specs.Refusal.{openConditions, intervalConditions}
 -- the calls, and that a tracker came from an opening and calls
 pub use Rattle.rules.specs.Tracker.{Opening, openOf, intervalOf, rowAnswer}
 pub use Rattle.rules.specs.Claim.{Came}

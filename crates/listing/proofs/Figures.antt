@@ -1,0 +1,45 @@
+-- Figures: document 01's example line, and a row whose line has all 95 bytes.
+-- Assumes nothing.
+use mathlib.Core.Path.{_≡_, refl}
+use mathlib.Core.Bool.{true, false}
+use Prim.Native.Nat.{ℕ}
+use lib.IntN.{ℤ, pos}
+use lib.ListN.{length}
+use Rattle.signed.specs.Range.{minus}
+use Rattle.units.specs.Units.{cents, hundredths}
+use Rattle.text.specs.Ascii.{ascii}
+use Rattle.text.specs.Text.{countOf, cellOf, signedOf, decOf, decimal}
+use Rattle.tracker.specs.Promise.{Row, None}
+use Rattle.listing.specs.Line.{joined, nameOf, amountsOf, lineOf, listedOf}
+
+-- a row of direction 2 outside a period, of which the line shows n, amount and current, both z, and next
+abbrev outside : ℕ → ℤ → ℤ → ℤ → Row
+outside n z previous next = record {
+  n = n;
+  direction = 2;
+  residue = cents (pos 0);
+  applies = false;
+  previous = cents previous;
+  current = cents z;
+  amount = cents z;
+  next = cents next;
+  net = cents (pos 0);
+  period = None;
+  counts = record { unbound = 0; violated = 0 };
+  blocked = false;
+  flag = true;
+  clamp = hundredths (pos 2000000);
+  notice = 0;
+}
+
+pub the-example : lineOf (outside 0 (minus 375000) (pos 0) (pos 0)) ≡ ascii "0,VIC1_NSW1,0,-375000,0,-375000,0,2000000\n"
+unfolding lineOf amountsOf joined nameOf countOf cellOf signedOf decOf decimal
+the-example = refl
+
+pub is-listed : listedOf (outside 0 (minus 375000) (pos 0) (pos 0)) ≡ true
+unfolding listedOf
+is-listed = refl
+
+pub the-longest : length (lineOf (outside 1051199 (minus 6307200000000000) (minus 6307200000000000) (minus 36000000000))) ≡ 95
+unfolding lineOf amountsOf joined nameOf countOf cellOf signedOf decOf decimal
+the-longest = refl

@@ -1,0 +1,240 @@
+// The listing of a journal: which rows are printed, each as a line, and all lines in one buffer. Every writer has the form of crate `text`: it
+// puts its bytes from a place on, gives the place after them, and leaves every other byte as it was.
+use journal::Found;
+use rules::Outcome;
+use rules::Row;
+use rules::Tracker;
+ghost use mathlib.Core.List.{[]};
+ghost use mathlib.Core.Path.{_≡_};
+ghost use Prim.Native.Nat.{_+_, _%_, _<_, _≤_};
+ghost use lib.ListN.{length, getD};
+ghost use Rattle.io.specs.Counts.{Counts};
+ghost use Rattle.text.specs.Text.{countOf, pasted, over};
+ghost use Rattle.tracker.specs.Promise.{Came, RowBounds, rowAnswer};
+ghost use Rattle.journal.specs.Journal as J;
+ghost use Rattle.listing.specs.Line.{comma, mark, nameOf, joined, amountsOf, lineOf, listedOf};
+ghost use Rattle.listing.specs.Table.{keptNames, keptLengths};
+ghost use Rattle.listing.specs.Listing.{header, refusedLine, ifListed, eightRows, runLines, recordLines, bodyLines, listingOf, refusedListing};
+
+// The directions' names, each with its comma. The last four are one byte shorter: their last byte is not printed.
+const NAMES: [[u8; 10]; 8] = [
+    *b"NSW1_QLD1,",
+    *b"QLD1_NSW1,",
+    *b"VIC1_NSW1,",
+    *b"NSW1_VIC1,",
+    *b"VIC1_SA1, ",
+    *b"SA1_VIC1, ",
+    *b"NSW1_SA1, ",
+    *b"SA1_NSW1, ",
+];
+
+const LENGTHS: [usize; 8] = [10, 10, 10, 10, 9, 9, 9, 9];
+
+fn kept_name(d: usize) -> [u8; 10]
+    requires { ⌜ d < 8 ⌝ }
+    ensures { λ r. ⌜ r ≡ getD keptNames d [] ⌝ }
+{
+    NAMES[d]
+}
+
+fn kept_length(d: usize) -> usize
+    requires { ⌜ d < 8 ⌝ }
+    ensures { λ r. ⌜ r ≡ getD keptLengths d 0 ⌝ }
+{
+    LENGTHS[d]
+}
+
+// A direction's name, and a comma.
+fn name(d: usize, out: &mut [u8], at: usize) -> usize
+    requires { ⌜ (d < 8) × (at + length (nameOf d) ≤ length (now out)) ⌝ }
+    ensures { λ r. ⌜ r ≡ at + length (nameOf d) ⌝ }
+    ensures { λ r. ⌜ now (out .exit) ≡ pasted at (nameOf d) (now (out .entry)) ⌝ }
+{
+    let bytes = kept_name(d);
+    let n = kept_length(d);
+    text::text(&bytes[..n], out, at)
+}
+
+fn mark(yes: bool) -> u64
+    ensures { λ r. ⌜ r ≡ mark yes ⌝ }
+{
+    if yes { 1 } else { 0 }
+}
+
+// A yes or no, and a comma.
+fn yes_no(yes: bool, out: &mut [u8], at: usize) -> usize
+    requires { ⌜ at + length (countOf (mark yes) comma) ≤ length (now out) ⌝ }
+    ensures { λ r. ⌜ r ≡ at + length (countOf (mark yes) comma) ⌝ }
+    ensures { λ r. ⌜ now (out .exit) ≡ pasted at (countOf (mark yes) comma) (now (out .entry)) ⌝ }
+{
+    text::count(mark(yes), b',', out, at)
+}
+
+// amount,previous,current,next
+fn amounts(row: Row, out: &mut [u8], at: usize) -> usize
+    requires { ⌜ RowBounds row × (at + length (amountsOf row) ≤ length (now out)) ⌝ }
+    ensures { λ r. ⌜ r ≡ at + length (amountsOf row) ⌝ }
+    ensures { λ r. ⌜ now (out .exit) ≡ pasted at (amountsOf row) (now (out .entry)) ⌝ }
+{
+    let a = text::cents(row.amount, b',', out, at);
+    let b = text::cents(row.previous, b',', out, a);
+    let c = text::cents(row.current, b',', out, b);
+    text::cents(row.next, b',', out, c)
+}
+
+// A row as a line.
+fn line(row: Row, out: &mut [u8], at: usize) -> usize
+    requires { ⌜ RowBounds row × (at + length (lineOf row) ≤ length (now out)) ⌝ }
+    ensures { λ r. ⌜ r ≡ at + length (lineOf row) ⌝ }
+    ensures { λ r. ⌜ now (out .exit) ≡ pasted at (lineOf row) (now (out .entry)) ⌝ }
+{
+    let a = text::count(row.n as u64, b',', out, at);
+    let b = name(row.direction, out, a);
+    let c = yes_no(row.applies, out, b);
+    let d = amounts(row, out, c);
+    text::hundredths(row.clamp, b'\n', out, d)
+}
+
+// Is the row printed?
+fn listed(row: Row) -> bool
+    ensures { λ r. ⌜ r ≡ listedOf row ⌝ }
+{
+    let amount = row.amount;
+    if amount.is_negative() {
+        return true;
+    }
+    let next = row.next;
+    if next.is_negative() {
+        return true;
+    }
+    row.applies
+}
+
+// One direction's line, where it is printed.
+fn row_line(t: Tracker, d: usize, out: &mut [u8], at: usize) -> usize
+    requires { ⌜ Came t × ((d < 8) × (at + length (joined (ifListed (rowAnswer t d .row))) ≤ length (now out))) ⌝ }
+    ensures { λ r. ⌜ r ≡ at + length (joined (ifListed (rowAnswer t d .row))) ⌝ }
+    ensures { λ r. ⌜ now (out .exit) ≡ pasted at (joined (ifListed (rowAnswer t d .row))) (now (out .entry)) ⌝ }
+{
+    let a = tracker::row(t, d);
+    let row = a.row;
+    if listed(row) {
+        return line(row, out, at);
+    }
+    at
+}
+
+// The printed rows of a tracker.
+fn rows(t: Tracker, out: &mut [u8], at: usize) -> usize
+    requires { ⌜ Came t × (at + length (joined (eightRows t)) ≤ length (now out)) ⌝ }
+    ensures { λ r. ⌜ r ≡ at + length (joined (eightRows t)) ⌝ }
+    ensures { λ r. ⌜ now (out .exit) ≡ pasted at (joined (eightRows t)) (now (out .entry)) ⌝ }
+{
+    let mut e = at;
+    let mut d: usize = 0;
+    while d < 8 {
+        e = row_line(t, d, out, e);
+        d += 1;
+    }
+    e
+}
+
+// A refusal's line.
+fn refused(number: u8, out: &mut [u8], at: usize) -> usize
+    requires { ⌜ at + length (refusedLine number) ≤ length (now out) ⌝ }
+    ensures { λ r. ⌜ r ≡ at + length (refusedLine number) ⌝ }
+    ensures { λ r. ⌜ now (out .exit) ≡ pasted at (refusedLine number) (now (out .entry)) ⌝ }
+{
+    let a = text::text(b"refused,", out, at);
+    text::count(number as u64, b'\n', out, a)
+}
+
+// The lines of records end to end, each in its turn; those of the records before a refusal stay.
+fn run(t: Tracker, records: &[u8], out: &mut [u8], at: usize) -> usize
+    requires { ⌜ Came t × ((length (now records) % 168 ≡ 0) × (at + length (joined (runLines (J.countOf (now records)) t (now records))) ≤ length (now out))) ⌝ }
+    ensures { λ r. ⌜ r ≡ at + length (joined (runLines (J.countOf (now (records .entry))) t (now (records .entry)))) ⌝ }
+    ensures { λ r. ⌜ now (out .exit) ≡ pasted at (joined (runLines (J.countOf (now (records .entry))) t (now (records .entry)))) (now (out .entry)) ⌝ }
+{
+    let mut u = t;
+    let mut e = at;
+    let mut i: usize = 0;
+    while i < records.len() {
+        let f = i + 168;
+        let a = tracker::interval(u, &records[i..f]);
+        let outcome = a.outcome;
+        if let Outcome::Refused(number) = outcome {
+            return refused(number, out, e);
+        }
+        u = a.tracker;
+        e = rows(u, out, e);
+        i = f;
+    }
+    e
+}
+
+// What the records of a journal give that starts at the first n.
+fn opened(first: u32, records: &[u8], out: &mut [u8], at: usize) -> usize
+    requires { ⌜ (length (now records) % 168 ≡ 0) × (at + length (joined (recordLines first (now records))) ≤ length (now out)) ⌝ }
+    ensures { λ r. ⌜ r ≡ at + length (joined (recordLines first (now (records .entry)))) ⌝ }
+    ensures { λ r. ⌜ now (out .exit) ≡ pasted at (joined (recordLines first (now (records .entry)))) (now (out .entry)) ⌝ }
+{
+    if records.len() == 0 {
+        return at;
+    }
+    let a = tracker::open(first, [500; 6]);
+    let outcome = a.outcome;
+    match outcome {
+        Outcome::Accepted => {
+            let t = a.tracker;
+            run(t, records, out, at)
+        }
+        Outcome::Refused(number) => refused(number, out, at),
+    }
+}
+
+// What follows the header.
+fn body(journal: &[u8], out: &mut [u8], at: usize) -> usize
+    requires { ⌜ at + length (joined (bodyLines (now journal))) ≤ length (now out) ⌝ }
+    ensures { λ r. ⌜ r ≡ at + length (joined (bodyLines (now (journal .entry)))) ⌝ }
+    ensures { λ r. ⌜ now (out .exit) ≡ pasted at (joined (bodyLines (now (journal .entry)))) (now (out .entry)) ⌝ }
+{
+    let found = journal::read(journal);
+    match found {
+        Found::Journal(_, first, _) => opened(first, journal::records(journal), out, at),
+        Found::Refused(number) => refused(number, out, at),
+    }
+}
+
+fn heading(out: &mut [u8]) -> usize
+    requires { ⌜ length header ≤ length (now out) ⌝ }
+    ensures { λ r. ⌜ r ≡ 0 + length header ⌝ }
+    ensures { λ r. ⌜ now (out .exit) ≡ pasted 0 header (now (out .entry)) ⌝ }
+{
+    text::text(
+        b"interval,direction,applies,amount,previous,current,next,clamp\n",
+        out,
+        0,
+    )
+}
+
+// The whole listing of a journal, at the start of a buffer that has room for the longest.
+pub fn listing(journal: &[u8], out: &mut [u8]) -> usize
+    requires { ⌜ 218942 ≤ length (now out) ⌝ }
+    ensures { λ r. ⌜ Counts r (now (out .exit)) ⌝ }
+    ensures { λ r. ⌜ r ≡ length (listingOf (now (journal .entry))) ⌝ }
+    ensures { λ r. ⌜ now (out .exit) ≡ over (listingOf (now (journal .entry))) (now (out .entry)) ⌝ }
+{
+    let e = heading(out);
+    body(journal, out, e)
+}
+
+// The listing of input that is refused before it is read as a journal.
+pub fn refused_listing(number: u8, out: &mut [u8]) -> usize
+    requires { ⌜ 74 ≤ length (now out) ⌝ }
+    ensures { λ r. ⌜ Counts r (now (out .exit)) ⌝ }
+    ensures { λ r. ⌜ r ≡ length (refusedListing number) ⌝ }
+    ensures { λ r. ⌜ now (out .exit) ≡ over (refusedListing number) (now (out .entry)) ⌝ }
+{
+    let e = heading(out);
+    refused(number, out, e)
+}
