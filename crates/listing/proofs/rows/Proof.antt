@@ -27,7 +27,7 @@ row-line-requires : tie.Need-row-line-requires Inv-loop μ-loop
 row-line-requires c κs =
     let l = c .before .before .loop in
     let t = c .before .before .before .before .args .t in
-    let u = said (row-step t (l .d) (c .before .loop-test .taken)) (l .inv .2) in
+    let u = said (row-step t (l .d) (omega (arith, c .before .loop-test .taken))) (l .inv .2) in
     (c .before .before .before .before .pre .0, (omega arith, room (joined (ifListed (rowAnswer t (l .d) .row))) (rowsFrom t (l .d + 1)) u (length (l .out)) (omega arith)))
 
 add-d : tie.Need-add-d Inv-loop μ-loop
@@ -41,7 +41,7 @@ loop-again c =
     let l = c .before .before .before .before .before .loop in
     let t = c .before .before .before .before .before .before .before .args .t in
     let k = c .before .before .row-line in
-    let u = said (row-step t (l .d) (c .before .before .before .before .loop-test .taken)) (l .inv .2) in
+    let u = said (row-step t (l .d) (omega (arith, c .before .before .before .before .loop-test .taken))) (l .inv .2) in
     (omega arith, omega (arith, k .kept), step (joined (ifListed (rowAnswer t (l .d) .row))) (rowsFrom t (l .d + 1)) u (c .before .before .before .before .before .before .before .pre .1) (k .ensures .0) (k .ensures .1))
 
 same-length : tie.Need-same-length Inv-loop μ-loop

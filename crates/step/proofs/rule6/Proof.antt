@@ -1,6 +1,7 @@
 -- `step::rule6` meets its contract: its tests, in the definition's order.
 -- Assumes nothing.
 use mathlib.Core.Path.{sym, _∙_}
+use native.Mathlib.Omega.{arith}
 use borrow.Author.Tests.{eq-eqb, ne-eqb}
 use borrow.Author.Needs.{needs}
 use Rattle.step.proofs.rule6.Statement.{statement}
@@ -16,7 +17,9 @@ returns : tie.Need-returns
 returns c = rw (sym (c .before .before .before .before .held .ensures) ∙ c .before .before .before .if1 .taken, c .before .before .if2 .taken, sym (c .before .below .ensures) ∙ c .if3 .taken)
 
 returns-2 : tie.Need-returns-2
-returns-2 c = rw (sym (c .before .before .before .before .before .before .held .ensures) ∙ c .before .before .before .before .before .if1 .taken, c .before .before .before .before .if2 .taken, sym (c .before .before .before .below .ensures) ∙ c .before .before .if3 .left, eq-eqb _ _ (c .if4 .taken))
+returns-2 c =
+    let unbound = c .before .before .before .before .before .before .before .args .counts .unbound in
+    rw (sym (c .before .before .before .before .before .before .held .ensures) ∙ c .before .before .before .before .before .if1 .taken, c .before .before .before .before .if2 .taken, sym (c .before .before .before .below .ensures) ∙ c .before .before .if3 .left, eq-eqb unbound 3 (omega (arith, c .if4 .taken)))
 
 returns-3 : tie.Need-returns-3
 returns-3 c = rw (sym (c .before .before .before .before .before .before .before .before .held .ensures) ∙ c .before .before .before .before .before .before .before .if1 .taken, c .before .before .before .before .before .before .if2 .taken, sym (c .before .before .before .before .before .below .ensures) ∙ c .before .before .before .before .if3 .left, ne-eqb _ _ (c .before .before .if4 .left), eq-eqb _ _ (c .if5 .taken))
