@@ -20,7 +20,7 @@ highestNext = 36000000000
 abbrev pub highestSum : ℕ
 highestSum = 1051200 * highestResidue
 
--- a period begins no later than the awaited number a, and ends in that half-hour or the next
+-- a period begins no later than the awaited number a, and ends at most 11 intervals after it
 pub record PeriodBounds (a first last : ℕ) : Type 0 where
   pub begun : first ≤ a
   pub ends : last ≤ a + 11
