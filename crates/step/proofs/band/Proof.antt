@@ -1,7 +1,11 @@
 -- `step::band` meets its contract: net compared to the edges, from the lowest.
 -- Assumes nothing.
-use mathlib.Core.Path.{sym, _∙_}
+use native.Mathlib.Omega.{arith}
+use mathlib.Core.Bool.{true, false}
+use mathlib.Core.Path.{_≡_, sym, _∙_}
 use borrow.Author.Needs.{needs}
+use Rattle.signed.proofs.Parts.{signed}
+use Rattle.rules.specs.Interval.{belowEdge, settings}
 use Rattle.step.proofs.band.Statement.{statement}
 use Rattle.step.proofs.band.Tie as tie
 
@@ -9,13 +13,17 @@ below-requires : tie.Need-below-requires
 below-requires c κs = search needs
 
 returns : tie.Need-returns
-returns c = rw (sym (c .before .below .ensures) ∙ c .if1 .taken)
+returns c =
+    let under : belowEdge settings 0 (c .before .before .args .net) ≡ true = omega (arith, signed, sym (c .before .below .ensures) ∙ c .if1 .taken) in
+    rw under
 
 below-requires-2 : tie.Need-below-requires-2
 below-requires-2 c κs = search needs
 
 returns-2 : tie.Need-returns-2
-returns-2 c = rw (sym (c .before .before .before .below .ensures) ∙ c .before .before .if1 .left, sym (c .before .below2 .ensures) ∙ c .if2 .taken)
+returns-2 c =
+    let from : belowEdge settings 0 (c .before .before .before .before .args .net) ≡ false = omega (arith, signed, sym (c .before .before .before .below .ensures) ∙ c .before .before .if1 .left) in
+    rw (from, sym (c .before .below2 .ensures) ∙ c .if2 .taken)
 
 below-requires-3 : tie.Need-below-requires-3
 below-requires-3 c κs = search needs

@@ -1,5 +1,7 @@
 -- `step::extends` meets its contract: its tests are the definition's.
 -- Assumes nothing.
+use Prim.Native.Nat.{_+_, _*_, _/_}
+use native.Mathlib.Omega.{arith}
 use borrow.Author.Tests.{eq-eqb, ne-eqb}
 use borrow.Author.Needs.{needs}
 use Rattle.step.proofs.extends.Statement.{statement}
@@ -15,7 +17,9 @@ add-if2 : tie.Need-add-if2
 add-if2 c = search needs
 
 returns-2 : tie.Need-returns-2
-returns-2 c = rw (ne-eqb _ _ (c .before .if1 .left), eq-eqb _ _ (c .if2 .taken))
+returns-2 c =
+    let a = c .before .before .args in
+    rw (ne-eqb _ _ (c .before .if1 .left), eq-eqb (a .last) (6 * (a .n / 6) + 5) (omega (arith, c .if2 .taken)))
 
 returns-3 : tie.Need-returns-3
 returns-3 c = rw (ne-eqb _ _ (c .before .if1 .left), ne-eqb _ _ (c .if2 .left))

@@ -2,6 +2,8 @@
 -- Assumes nothing.
 use mathlib.Core.Bool.{Bool, true, false}
 use mathlib.Core.Path.{_≡_, sym, _∙_}
+use Prim.Native.Nat.{_%_}
+use native.Mathlib.Omega.{arith}
 use borrow.Author.Tests.{lt-ltb, le-ltb, eq-eqb, ne-eqb}
 use Rattle.rules.specs.declared.Outcome.the-variants.{Accepted, Refused}
 use Rattle.rules.specs.Refusal.{openConditions, openOutcome}
@@ -29,7 +31,7 @@ returns-2 : tie.Need-returns-2
 unfolding openOutcome openConditions
 returns-2 c =
     let a = c .before .before .before .args in
-    let e : openOutcome (a .first) (a .shares) ≡ Refused 9 = rw (le-ltb _ _ (c .before .before .if1 .left), ne-eqb _ _ (c .before .if2 .taken)) in
+    let e : openOutcome (a .first) (a .shares) ≡ Refused 9 = rw (le-ltb _ _ (c .before .before .if1 .left), ne-eqb (a .first % 6) 0 (omega (arith, c .before .if2 .taken))) in
     open-promise (opening (a .first) (a .shares)) (c .refused-opening2 .ensures ∙ sym (refused (a .first) (a .shares) e))
 
 shares-ok-requires : tie.Need-shares-ok-requires
@@ -42,7 +44,7 @@ returns-3 : tie.Need-returns-3
 unfolding openOutcome openConditions
 returns-3 c =
     let a = c .before .before .before .before .before .args in
-    let e : openOutcome (a .first) (a .shares) ≡ Accepted = rw (le-ltb _ _ (c .before .before .before .before .if1 .left), eq-eqb _ _ (c .before .before .before .if2 .left), sym (c .before .before .shares-ok .ensures) ∙ c .before .if3 .taken) in
+    let e : openOutcome (a .first) (a .shares) ≡ Accepted = rw (le-ltb _ _ (c .before .before .before .before .if1 .left), eq-eqb (a .first % 6) 0 (omega (arith, c .before .before .before .if2 .left)), sym (c .before .before .shares-ok .ensures) ∙ c .before .if3 .taken) in
     open-promise (opening (a .first) (a .shares)) (rw (c .fresh-tracker .ensures) (sym (accepted (a .first) (a .shares) e)))
 
 refused-opening-requires-3 : tie.Need-refused-opening-requires-3
