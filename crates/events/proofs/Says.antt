@@ -1,24 +1,24 @@
 -- What an accepted record's numbers allow, and that the parts put together are what it says of a direction.
 -- Assumes nothing.
-use mathlib.Core.Bool.{Bool, true, false, cond, _&&_, and-false}
-use mathlib.Core.List.{List, [], _∷_}
+use mathlib.Core.Bool.{Bool, true, false, cond}
+use mathlib.Core.List.{List}
 use mathlib.Core.Path.{_≡_, refl, ap, _∙_}
-use Prim.Native.Nat.{ℕ, _+_, _≤_, _<_}
+use Prim.Native.Nat.{ℕ, _≤_, _<_}
 use native.Mathlib.Nat.{zero-add, le-trans}
-use native.Mathlib.Omega.{arith}
-use lib.Dec.{eqb, lit≤}
+use lib.Dec.{lit≤}
 use lib.IntN.{pos}
 use lib.ListN.{length, getD, replicate}
 use Rattle.units.specs.declared.Cents.{Cents}
 use Rattle.units.specs.Units.{cents}
 use Rattle.rules.specs.declared.Event.{Event}
 use Rattle.rules.specs.declared.Line.{Line}
-use Rattle.rules.specs.Interval.{place, loopSum, flagOf, nextOf}
+use Rattle.rules.specs.Interval.{loopSum, flagOf, nextOf}
 use Rattle.rules.specs.Record.{number, operating, present, prices, lines, aheadPrices, aheadLines, residue, aheadResidue, eventOf}
 use Rattle.rules.proofs.Accepted.{Sound, accepted-is}
 use Rattle.rules.proofs.Each.{map-at}
 use Rattle.rules.proofs.Laws.{next-law}
 use Rattle.rules.proofs.Ranges.{Ranged, interval-ranged, ahead-ranged}
+use Rattle.residue.proofs.Directions.{at, loop-sum-is}
 use Rattle.residue.specs.Directions.{ofDirections}
 use Rattle.residue.specs.Range.{InRange}
 use Rattle.events.specs.Event.{Readable, aheadOf, eventFrom}
@@ -53,11 +53,12 @@ next-is : (flag : Bool) (n : ℕ) (p : Bool) (ahead : ℕ → Cents) (d : ℕ) �
 next-is flag n true ahead d h = ap (λ (x : Cents). nextOf flag n true x) (at-direction ahead (cents (pos 0)) d h)
 next-is flag n false ahead d h = next-law flag n false _ .absent refl ∙ rw (next-law flag n false (ahead d) .absent refl)
 
-pub event-is : (shares b : List ℕ) (d : ℕ) → d < 8 → eventFrom (ofDirections (residue shares b)) (aheadOf shares b) (loopSum (residue shares b)) d b ≡ eventOf shares d b
+-- an event put together from the record's residues, those ahead and the loop's sum is the record's
+pub event-is : (shares b : List ℕ) {residues ahead : List Cents} {sum : Cents}
+    → residues ≡ ofDirections (residue shares b)
+    → ahead ≡ aheadOf shares b
+    → sum ≡ loopSum (at residues)
+    → (d : ℕ) → d < 8 → (e : Event) → e ≡ eventFrom residues ahead sum d b → e ≡ eventOf shares d b
 unfolding eventFrom eventOf
-event-is shares b d h =
-    rw (at-direction (residue shares b) (cents (pos 0)) d h, next-is (flagOf (operating b) (loopSum (residue shares b)) d) (number b) (present b) (aheadResidue shares b) d h)
-
-pub directions-same : {A : Type 0} (f g : ℕ → A) → ((d : ℕ) → d < 8 → f d ≡ g d) → ofDirections f ≡ ofDirections g
-directions-same f g h =
-    λ i. h 0 (lit≤ tt) i ∷ h 1 (lit≤ tt) i ∷ h 2 (lit≤ tt) i ∷ h 3 (lit≤ tt) i ∷ h 4 (lit≤ tt) i ∷ h 5 (lit≤ tt) i ∷ h 6 (lit≤ tt) i ∷ h 7 (lit≤ tt) i ∷ []
+event-is shares b r a s d h e q =
+    rw (q, s, loop-sum-is (residue shares b) r, r, a, at-direction (residue shares b) (cents (pos 0)) d h, next-is (flagOf (operating b) (loopSum (residue shares b)) d) (number b) (present b) (aheadResidue shares b) d h)

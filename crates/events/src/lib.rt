@@ -1,7 +1,6 @@
 // What an accepted record says of each direction: residue, loop flag, estimate, review, status, blocked mark and target sum.
 use rules::Event;
 use units::Cents;
-use units::Hundredths;
 ghost use mathlib.Core.Path.{_≡_};
 ghost use Prim.Native.Nat.{_<_};
 ghost use lib.ListN.{length};
@@ -69,20 +68,14 @@ pub fn events(shares: [u16; 6], s: &[u8]) -> [Event; 8]
     let residues = interval_residues(shares, s);
     let ahead = ahead_residues(shares, s);
     let loop_sum = residue::loop_sum(residues);
-    let blank = Event {
-        n: 0,
-        flag: false,
-        residue: Cents(0),
-        next: Cents(0),
-        review: false,
-        status: 0,
-        blocked: false,
-        target: Hundredths(0),
-    };
-    let mut out = [blank; 8];
-    for d in 0..8 {
-        let e = event(s, residues, ahead, loop_sum, d);
-        out[d] = e;
-    }
-    out
+    [
+        event(s, residues, ahead, loop_sum, 0),
+        event(s, residues, ahead, loop_sum, 1),
+        event(s, residues, ahead, loop_sum, 2),
+        event(s, residues, ahead, loop_sum, 3),
+        event(s, residues, ahead, loop_sum, 4),
+        event(s, residues, ahead, loop_sum, 5),
+        event(s, residues, ahead, loop_sum, 6),
+        event(s, residues, ahead, loop_sum, 7),
+    ]
 }

@@ -44,12 +44,9 @@ fn int_at(s: &[u8], at: usize) -> i64
     requires { ⌜ at + 4 ≤ length (now s) ⌝ }
     ensures { λ r. ⌜ IsI32 (now (s .entry)) at r ⌝ }
 {
-    let u = u32_at(s, at);
-    if u < 2147483648 {
-        u as i64
-    } else {
-        u as i64 - 4294967296
-    }
+    // Without a branch: one load, sign-extended.
+    let u = u32_at(s, at) as u64;
+    ((u + 2147483648) % 4294967296) as i64 - 2147483648
 }
 
 pub fn cents_at(s: &[u8], at: usize) -> Cents

@@ -1,3 +1,4 @@
 -- Text as lists of bytes.
 pub mod Text
+pub mod Groups
 pub mod Ascii

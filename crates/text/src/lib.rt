@@ -7,6 +7,7 @@ ghost use lib.IntN.{natAbs};
 ghost use lib.ListN.{length};
 ghost use Rattle.signed.specs.Range.{negative};
 ghost use Rattle.text.specs.Text.{decOf, countOf, cellOf, littleOf, pasted, highestPrinted};
+ghost use Rattle.text.specs.Groups.{padded};
 
 // One byte: the other writers are made of this one.
 pub fn put(out: &mut [u8], at: usize, b: u8) -> usize
@@ -25,17 +26,97 @@ fn digit(d: u64) -> u8
     48 + d as u8
 }
 
-// The decimal digits of n, for numbers that something other than a byte ends.
-pub fn number(n: u64, out: &mut [u8], at: usize) -> usize
-    requires { ⌜ at + length (decOf n) ≤ length (now out) ⌝ }
+// The digits are put in groups of two, four and eight, zeros in front included: a call and a division for each digit is what a listing would
+// mostly pay for.
+fn two(n: u64, out: &mut [u8], at: usize) -> usize
+    requires { ⌜ (n < 100) × (at + 2 ≤ length (now out)) ⌝ }
+    ensures { λ r. ⌜ r ≡ at + 2 ⌝ }
+    ensures { λ r. ⌜ now (out .exit) ≡ pasted at (padded 2 n) (now (out .entry)) ⌝ }
+{
+    let e = put(out, at, digit(n / 10));
+    put(out, e, digit(n % 10))
+}
+
+fn four(n: u64, out: &mut [u8], at: usize) -> usize
+    requires { ⌜ (n < 10000) × (at + 4 ≤ length (now out)) ⌝ }
+    ensures { λ r. ⌜ r ≡ at + 4 ⌝ }
+    ensures { λ r. ⌜ now (out .exit) ≡ pasted at (padded 4 n) (now (out .entry)) ⌝ }
+{
+    let e = two(n / 100, out, at);
+    two(n % 100, out, e)
+}
+
+fn eight(n: u64, out: &mut [u8], at: usize) -> usize
+    requires { ⌜ (n < 100000000) × (at + 8 ≤ length (now out)) ⌝ }
+    ensures { λ r. ⌜ r ≡ at + 8 ⌝ }
+    ensures { λ r. ⌜ now (out .exit) ≡ pasted at (padded 8 n) (now (out .entry)) ⌝ }
+{
+    let e = four(n / 10000, out, at);
+    four(n % 10000, out, e)
+}
+
+// A number of at most two digits,
+fn up_to_two(n: u64, out: &mut [u8], at: usize) -> usize
+    requires { ⌜ (n < 100) × (at + length (decOf n) ≤ length (now out)) ⌝ }
     ensures { λ r. ⌜ r ≡ at + length (decOf n) ⌝ }
     ensures { λ r. ⌜ now (out .exit) ≡ pasted at (decOf n) (now (out .entry)) ⌝ }
 {
     if n < 10 {
         return put(out, at, digit(n));
     }
-    let e = number(n / 10, out, at);
-    put(out, e, digit(n % 10))
+    two(n, out, at)
+}
+
+// of at most four,
+fn up_to_four(n: u64, out: &mut [u8], at: usize) -> usize
+    requires { ⌜ (n < 10000) × (at + length (decOf n) ≤ length (now out)) ⌝ }
+    ensures { λ r. ⌜ r ≡ at + length (decOf n) ⌝ }
+    ensures { λ r. ⌜ now (out .exit) ≡ pasted at (decOf n) (now (out .entry)) ⌝ }
+{
+    if n < 100 {
+        return up_to_two(n, out, at);
+    }
+    let e = up_to_two(n / 100, out, at);
+    two(n % 100, out, e)
+}
+
+// of at most eight,
+fn up_to_eight(n: u64, out: &mut [u8], at: usize) -> usize
+    requires { ⌜ (n < 100000000) × (at + length (decOf n) ≤ length (now out)) ⌝ }
+    ensures { λ r. ⌜ r ≡ at + length (decOf n) ⌝ }
+    ensures { λ r. ⌜ now (out .exit) ≡ pasted at (decOf n) (now (out .entry)) ⌝ }
+{
+    if n < 10000 {
+        return up_to_four(n, out, at);
+    }
+    let e = up_to_four(n / 10000, out, at);
+    four(n % 10000, out, e)
+}
+
+// of at most twelve: as many as the largest number has before its last eight.
+fn up_to_twelve(n: u64, out: &mut [u8], at: usize) -> usize
+    requires { ⌜ (n < 1000000000000) × (at + length (decOf n) ≤ length (now out)) ⌝ }
+    ensures { λ r. ⌜ r ≡ at + length (decOf n) ⌝ }
+    ensures { λ r. ⌜ now (out .exit) ≡ pasted at (decOf n) (now (out .entry)) ⌝ }
+{
+    if n < 100000000 {
+        return up_to_eight(n, out, at);
+    }
+    let e = up_to_four(n / 100000000, out, at);
+    eight(n % 100000000, out, e)
+}
+
+// The decimal digits of n, for numbers that something other than a byte ends.
+pub fn number(n: u64, out: &mut [u8], at: usize) -> usize
+    requires { ⌜ at + length (decOf n) ≤ length (now out) ⌝ }
+    ensures { λ r. ⌜ r ≡ at + length (decOf n) ⌝ }
+    ensures { λ r. ⌜ now (out .exit) ≡ pasted at (decOf n) (now (out .entry)) ⌝ }
+{
+    if n < 100000000 {
+        return up_to_eight(n, out, at);
+    }
+    let e = up_to_twelve(n / 100000000, out, at);
+    eight(n % 100000000, out, e)
 }
 
 // A plain number and the byte that ends it, a comma or a line's end: an interval's number, a refusal's.

@@ -1,92 +1,79 @@
--- `events::events` meets its contract: after d turns the first d directions have their events.
+-- `events::events` meets its contract: each call gives what the record says of its direction.
 -- Assumes nothing.
-use mathlib.Core.Path.{_≡_, refl, _∙_}
+use mathlib.Core.List.{[], _∷_}
 use borrow.Author.Needs.{needs}
-use mathlib.Core.Bool.{false}
-use mathlib.Core.List.{List}
-use Prim.Native.Nat.{ℕ, _-_, _≤_, _<_}
-use native.Mathlib.Omega.{arith}
-use lib.IntN.{pos}
-use lib.ListN.{length, getD}
-use Rattle.units.specs.declared.Cents.{Cents}
-use Rattle.units.specs.Units.{cents, hundredths}
-use Rattle.rules.specs.declared.Event.{Event}
-use Rattle.rules.specs.Interval.{loopSum}
-use Rattle.rules.specs.Record.{residue, eventOf}
-use Rattle.rules.proofs.Each.{partly, turn, whole}
-use Rattle.residue.proofs.Directions.{at, each-size, in-range-size, loop-sum-is}
-use Rattle.events.specs.Event.{eventFrom, noEvent}
-use Rattle.events.proofs.Says.{interval-in-range, event-is, directions-same}
-use Rattle.events.proofs.Says as says
+use lib.Dec.{lit≤}
+use Rattle.rules.specs.Record.{residue}
+use Rattle.residue.proofs.Directions.{each-size, in-range-size}
+use Rattle.events.proofs.Says.{whole, interval-in-range, event-is}
 use Rattle.events.proofs.events.Statement.{statement}
 use Rattle.events.proofs.events.Tie as tie
 
--- what a turn stores, whatever stood there
-abbrev told : List ℕ → List Cents → List Cents → Cents → ℕ → Event → Event
-told b residues ahead sum d _ = eventFrom residues ahead sum d b
-
-abbrev Inv-loop : tie.InvT-loop
-Inv-loop s residues ahead loop-sum out₀ d₀ out d = (d ≤ 8) × (out ≡ partly (told s residues ahead loop-sum) 0 d out₀)
-
-abbrev μ-loop : tie.MeasureT-loop
-μ-loop s residues ahead loop-sum out₀ d₀ out d = 8 - d
-
-interval-residues-requires : tie.Need-interval-residues-requires Inv-loop μ-loop
+interval-residues-requires : tie.Need-interval-residues-requires
 interval-residues-requires c κs = search needs
 
-ahead-residues-requires : tie.Need-ahead-residues-requires Inv-loop μ-loop
+ahead-residues-requires : tie.Need-ahead-residues-requires
 ahead-residues-requires c κs = search needs
 
-loop-sum-requires : tie.Need-loop-sum-requires Inv-loop μ-loop
-loop-sum-requires c κs = each-size (residue (c .before .before .before .args .shares) (c .before .before .before .args .s .now)) (in-range-size (interval-in-range (c .before .before .before .pre))) (c .before .interval-residues .ensures)
+loop-sum-requires : tie.Need-loop-sum-requires
+loop-sum-requires c κs =
+    let s = c .before .before .before in
+    each-size (residue (s .args .shares) (s .args .s .now)) (in-range-size (interval-in-range (s .pre))) (c .before .interval-residues .ensures)
 
-loop-holds : tie.Need-loop-holds Inv-loop μ-loop
-loop-holds c = (search needs, refl)
+event-requires : tie.Need-event-requires
+event-requires c κs = (whole (c .before .before .before .before .pre), lit≤ tt)
 
-event-requires : tie.Need-event-requires Inv-loop μ-loop
-event-requires c κs = (says.whole (c .before .before .before .before .before .before .pre), c .loop-test .taken)
+event-requires-2 : tie.Need-event-requires-2
+event-requires-2 c κs = (whole (c .before .before .before .before .before .pre), lit≤ tt)
 
-mul-out : tie.Need-mul-out Inv-loop μ-loop
-mul-out c = search needs
+event-requires-3 : tie.Need-event-requires-3
+event-requires-3 c κs = (whole (c .before .before .before .before .before .before .pre), lit≤ tt)
 
-array-set-from-out : tie.Need-array-set-from-out Inv-loop μ-loop
-array-set-from-out c = search needs
+event-requires-4 : tie.Need-event-requires-4
+event-requires-4 c κs = (whole (c .before .before .before .before .before .before .before .pre), lit≤ tt)
 
-add-d : tie.Need-add-d Inv-loop μ-loop
-add-d c = search needs
+event-requires-5 : tie.Need-event-requires-5
+event-requires-5 c κs = (whole (c .before .before .before .before .before .before .before .before .pre), lit≤ tt)
 
-loop-less : tie.Need-loop-less Inv-loop μ-loop
-loop-less c = search needs
+event-requires-6 : tie.Need-event-requires-6
+event-requires-6 c κs = (whole (c .before .before .before .before .before .before .before .before .before .pre), lit≤ tt)
 
-loop-again : tie.Need-loop-again Inv-loop μ-loop
-loop-again c = (search needs, turn (told (c .before .before .before .before .before .before .before .args .s .now) (c .before .before .before .before .before .interval-residues .result) (c .before .before .before .before .ahead-residues .result) (c .before .before .before .loop-sum .result)) (c .before .before .loop .d) _ noEvent _ _ (search needs) (c .before .before .loop .inv .1) (c .event .ensures))
+event-requires-7 : tie.Need-event-requires-7
+event-requires-7 c κs = (whole (c .before .before .before .before .before .before .before .before .before .before .pre), lit≤ tt)
 
-returns : tie.Need-returns Inv-loop μ-loop
+event-requires-8 : tie.Need-event-requires-8
+event-requires-8 c κs = (whole (c .before .before .before .before .before .before .before .before .before .before .before .pre), lit≤ tt)
+
+returns : tie.Need-returns
 returns c =
-    let a = c .before .before .before .before .before .before .args in
-    let residues = c .before .before .before .before .interval-residues in
-    let ahead = c .before .before .before .ahead-residues in
-    let sum = c .before .before .loop-sum in
-    let last : c .before .loop .d ≡ 8 = omega arith in
-    c .before .loop .inv .1
-    ∙ whole (told (a .s .now) (residues .result) (ahead .result) (sum .result)) (c .before .loop .d) 8 _ refl last
-    ∙ rw (sum .ensures, loop-sum-is (residue (a .shares) (a .s .now)) (residues .ensures), residues .ensures, ahead .ensures)
-    (directions-same _ _ (event-is (a .shares) (a .s .now)))
+    let sum = c .before .before .before .before .before .before .before .before in
+    let ahead = sum .before in
+    let residues = ahead .before in
+    let s = residues .before .before in
+    let said = event-is (s .args .shares) (s .args .s .now) (residues .interval-residues .ensures) (ahead .ahead-residues .ensures) (sum .loop-sum .ensures) in
+    λ i. said 0 (lit≤ tt) _ (c .before .before .before .before .before .before .before .event .ensures) i
+    ∷ said 1 (lit≤ tt) _ (c .before .before .before .before .before .before .event2 .ensures) i
+    ∷ said 2 (lit≤ tt) _ (c .before .before .before .before .before .event3 .ensures) i
+    ∷ said 3 (lit≤ tt) _ (c .before .before .before .before .event4 .ensures) i
+    ∷ said 4 (lit≤ tt) _ (c .before .before .before .event5 .ensures) i
+    ∷ said 5 (lit≤ tt) _ (c .before .before .event6 .ensures) i
+    ∷ said 6 (lit≤ tt) _ (c .before .event7 .ensures) i
+    ∷ said 7 (lit≤ tt) _ (c .event8 .ensures) i
+    ∷ []
 
 pub events-spec : {M : Type 1} → statement M
 events-spec =
     tie.close
     (tie.spec
-    Inv-loop
-    μ-loop
     interval-residues-requires
     ahead-residues-requires
     loop-sum-requires
-    loop-holds
     event-requires
-    mul-out
-    array-set-from-out
-    add-d
-    loop-less
-    loop-again
+    event-requires-2
+    event-requires-3
+    event-requires-4
+    event-requires-5
+    event-requires-6
+    event-requires-7
+    event-requires-8
     returns)

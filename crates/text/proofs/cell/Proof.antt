@@ -7,7 +7,7 @@ use native.Mathlib.Omega.{arith}
 use lib.ListN.{length}
 use borrow.Author.Needs.{needs}
 use Rattle.text.specs.Text.{countOf, cellOf, pasted}
-use Rattle.text.proofs.Paste.{after}
+use Rattle.text.proofs.Parts.{both}
 use Rattle.text.proofs.Digits.{cell-minus, cell-plain}
 use Rattle.text.proofs.cell.Statement.{statement}
 use Rattle.text.proofs.cell.Tie as tie
@@ -48,13 +48,9 @@ returns c =
     let a = c .before .before .before .before .before .before .before .before .before .before .before .before .args in
     let m = minus (c .before .before .before .before .before .before .before .before) in
     let p = c .before .before .before .before .before .before .put in
-    let digits = countOf (c .before .before .before .before .before .before .before .before .before .before .magnitude .result) (a .end) in (
-      omega (arith, ap length m),
-      c .before .before .count .ensures .1
-          ∙ ap (pasted (p .result) digits) (p .ensures .1)
-          ∙ after (a .out .now) (45 ∷ []) digits (a .at) (p .result) (omega (arith, ap length m)) (p .ensures .0)
-          ∙ ap (λ (l : List ℕ). pasted (a .at) l (a .out .now)) (sym m),
-    )
+    let k = c .before .before .count in
+    let digits = countOf (c .before .before .before .before .before .before .before .before .before .before .magnitude .result) (a .end) in
+    both (cellOf (a .z .0) (a .end)) (45 ∷ []) digits (a .out .now) m (omega (arith, ap length m)) (p .ensures .0) (p .ensures .1) (k .ensures .0) (k .ensures .1)
 
 count-requires-2 : tie.Need-count-requires-2
 count-requires-2 c κs = omega (arith, ap length (plain (c .before)))

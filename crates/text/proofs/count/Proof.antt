@@ -1,13 +1,13 @@
 -- `text::count` meets its contract: the digits, then the byte that ends them.
 -- Assumes nothing.
-use mathlib.Core.Path.{_≡_, ap, _∙_}
+use mathlib.Core.Path.{_≡_, refl}
 use mathlib.Core.List.{[], _∷_}
 use Prim.Native.Nat.{ℕ, _+_}
 use native.Mathlib.Omega.{arith}
 use lib.ListN.{length, length-append}
 use borrow.Author.Needs.{needs}
-use Rattle.text.specs.Text.{decOf, countOf, pasted}
-use Rattle.text.proofs.Paste.{after}
+use Rattle.text.specs.Text.{decOf, countOf}
+use Rattle.text.proofs.Parts.{both}
 use Rattle.text.proofs.count.Statement.{statement}
 use Rattle.text.proofs.count.Tie as tie
 
@@ -31,12 +31,8 @@ unfolding countOf
 returns c =
     let a = c .before .before .before .before .before .before .before .before .before .args in
     let k = c .before .before .before .before .before .before .number in
-    let l = long (a .n) (a .end) in (
-      omega arith,
-      c .before .before .put .ensures .1
-          ∙ ap (pasted (k .result) (a .end ∷ [])) (k .ensures .1)
-          ∙ after (a .out .now) (decOf (a .n)) (a .end ∷ []) (a .at) (k .result) (omega arith) (k .ensures .0),
-    )
+    let p = c .before .before .put in
+    both (countOf (a .n) (a .end)) (decOf (a .n)) (a .end ∷ []) (a .out .now) refl (omega arith) (k .ensures .0) (k .ensures .1) (p .ensures .0) (p .ensures .1)
 
 pub count-spec : {M : Type 1} → statement M
 count-spec = tie.close (tie.spec number-requires put-requires same-length returns)
