@@ -2,3 +2,4 @@
 pub mod Line
 pub mod Listing
 pub mod Table
+pub mod Shown

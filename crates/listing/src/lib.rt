@@ -6,7 +6,7 @@ use rules::Row;
 use rules::Tracker;
 ghost use mathlib.Core.List.{[]};
 ghost use mathlib.Core.Path.{_≡_};
-ghost use Prim.Native.Nat.{_+_, _%_, _<_, _≤_};
+ghost use Prim.Native.Nat.{ℕ, _+_, _%_, _<_, _≤_};
 ghost use lib.ListN.{length, getD};
 ghost use Rattle.io.specs.Counts.{Counts};
 ghost use Rattle.text.specs.Text.{countOf, pasted, over};
@@ -14,6 +14,7 @@ ghost use Rattle.tracker.specs.Promise.{Came, RowBounds, rowAnswer};
 ghost use Rattle.journal.specs.Journal as J;
 ghost use Rattle.listing.specs.Line.{comma, mark, nameOf, joined, amountsOf, lineOf, listedOf};
 ghost use Rattle.listing.specs.Table.{keptNames, keptLengths};
+ghost use Rattle.listing.specs.Shown.{shownRows};
 ghost use Rattle.listing.specs.Listing.{header, refusedLine, ifListed, eightRows, runLines, recordLines, bodyLines, listingOf, refusedListing};
 
 // The directions' names, each with its comma. The last four are one byte shorter: their last byte is not printed.
@@ -55,10 +56,10 @@ fn name(d: usize, out: &mut [u8], at: usize) -> usize
     text::text(&bytes[..n], out, at)
 }
 
-fn mark(yes: bool) -> u64
-    ensures { λ r. ⌜ r ≡ mark yes ⌝ }
+fn mark(yes: bool) -> u8
+    ensures { λ r. ⌜ r ≡ 48 + mark yes ⌝ }
 {
-    if yes { 1 } else { 0 }
+    if yes { b'1' } else { b'0' }
 }
 
 // A yes or no, and a comma.
@@ -67,7 +68,8 @@ fn yes_no(yes: bool, out: &mut [u8], at: usize) -> usize
     ensures { λ r. ⌜ r ≡ at + length (countOf (mark yes) comma) ⌝ }
     ensures { λ r. ⌜ now (out .exit) ≡ pasted at (countOf (mark yes) comma) (now (out .entry)) ⌝ }
 {
-    text::count(mark(yes), b',', out, at)
+    let e = text::put(out, at, mark(yes));
+    text::put(out, e, b',')
 }
 
 // amount,previous,current,next
@@ -110,18 +112,44 @@ fn listed(row: Row) -> bool
     row.applies
 }
 
-// One direction's line, where it is printed.
-fn row_line(t: Tracker, d: usize, out: &mut [u8], at: usize) -> usize
-    requires { ⌜ Came t × ((d < 8) × (at + length (joined (ifListed (rowAnswer t d .row))) ≤ length (now out))) ⌝ }
-    ensures { λ r. ⌜ r ≡ at + length (joined (ifListed (rowAnswer t d .row))) ⌝ }
-    ensures { λ r. ⌜ now (out .exit) ≡ pasted at (joined (ifListed (rowAnswer t d .row))) (now (out .entry)) ⌝ }
+// A row's line, where it is printed.
+fn row_line(row: Row, out: &mut [u8], at: usize) -> usize
+    requires { ⌜ RowBounds row × (at + length (joined (ifListed row)) ≤ length (now out)) ⌝ }
+    ensures { λ r. ⌜ r ≡ at + length (joined (ifListed row)) ⌝ }
+    ensures { λ r. ⌜ now (out .exit) ≡ pasted at (joined (ifListed row)) (now (out .entry)) ⌝ }
 {
-    let a = tracker::row(t, d);
-    let row = a.row;
     if listed(row) {
         return line(row, out, at);
     }
     at
+}
+
+// What a direction shows.
+fn shown(t: Tracker, d: usize) -> Row
+    requires { ⌜ Came t × (d < 8) ⌝ }
+    ensures { λ r. ⌜ r ≡ rowAnswer t d .row ⌝ }
+    ensures { λ r. ⌜ RowBounds (rowAnswer t d .row) ⌝ }
+{
+    let a = tracker::row(t, d);
+    a.row
+}
+
+// All eight, each asked for by its number: a number that only the run knows would have the whole tracker copied for each row.
+fn all_shown(t: Tracker) -> [Row; 8]
+    requires { ⌜ Came t ⌝ }
+    ensures { λ r. ⌜ r ≡ shownRows t ⌝ }
+    ensures { λ r. ⌜ ((d : ℕ) → d < 8 → RowBounds (rowAnswer t d .row)) ⌝ }
+{
+    [
+        shown(t, 0),
+        shown(t, 1),
+        shown(t, 2),
+        shown(t, 3),
+        shown(t, 4),
+        shown(t, 5),
+        shown(t, 6),
+        shown(t, 7),
+    ]
 }
 
 // The printed rows of a tracker.
@@ -130,10 +158,12 @@ fn rows(t: Tracker, out: &mut [u8], at: usize) -> usize
     ensures { λ r. ⌜ r ≡ at + length (joined (eightRows t)) ⌝ }
     ensures { λ r. ⌜ now (out .exit) ≡ pasted at (joined (eightRows t)) (now (out .entry)) ⌝ }
 {
+    let all = all_shown(t);
     let mut e = at;
     let mut d: usize = 0;
     while d < 8 {
-        e = row_line(t, d, out, e);
+        let row = all[d];
+        e = row_line(row, out, e);
         d += 1;
     }
     e

@@ -2,33 +2,27 @@
 -- Assumes nothing.
 use mathlib.Core.Path.{_≡_, ap, sym, _∙_}
 use mathlib.Core.List.{List, []}
-use Prim.Native.Nat.{ℕ, _+_}
 use native.Mathlib.Omega.{arith}
 use lib.ListN.{length}
-use Rattle.text.specs.Text.{pasted}
+use borrow.Author.Needs.{needs}
 use Rattle.text.proofs.Paste.{none}
-use Rattle.tracker.specs.Promise.{rowAnswer}
 use Rattle.listing.specs.Line.{joined, lineOf}
 use Rattle.listing.specs.Listing.{ifListed}
 use Rattle.listing.proofs.Joins.{yes-line, no-line}
-use borrow.Author.Needs.{needs}
 use Rattle.listing.proofs.row_line.Statement.{statement}
 use Rattle.listing.proofs.row_line.Tie as tie
 
-shown : (c : tie.Then1) → joined (ifListed (rowAnswer (c .before .before .before .before .before .args .t) (c .before .before .before .before .before .args .d) .row)) ≡ lineOf (c .before .before .before .row .result .row)
-shown c = rw (← c .before .before .before .row .ensures .is) (yes-line (c .before .before .before .row .result .row) (sym (c .before .listed .ensures) ∙ c .if1 .taken))
+shown : (c : tie.Then1) → joined (ifListed (c .before .before .before .args .row)) ≡ lineOf (c .before .before .before .args .row)
+shown c = yes-line (c .before .before .before .args .row) (sym (c .before .listed .ensures) ∙ c .if1 .taken)
 
-hidden : (c : tie.Else1) → joined (ifListed (rowAnswer (c .before .before .before .before .before .args .t) (c .before .before .before .before .before .args .d) .row)) ≡ []
-hidden c = rw (← c .before .before .before .row .ensures .is) (no-line (c .before .before .before .row .result .row) (sym (c .before .listed .ensures) ∙ c .if1 .left))
-
-row-requires : tie.Need-row-requires
-row-requires c κs = search needs
+hidden : (c : tie.Else1) → joined (ifListed (c .before .before .before .args .row)) ≡ []
+hidden c = no-line (c .before .before .before .args .row) (sym (c .before .listed .ensures) ∙ c .if1 .left)
 
 listed-requires : tie.Need-listed-requires
 listed-requires c κs = search needs
 
 line-requires : tie.Need-line-requires
-line-requires c κs = (c .before .before .before .before .row .ensures .bounded (c .before .before .before .before .before .before .pre .1 .0), omega (arith, ap length (shown (c .before))))
+line-requires c κs = (c .before .before .before .before .pre .0, omega (arith, ap length (shown (c .before))))
 
 same-length : tie.Need-same-length
 same-length c = search needs
@@ -37,8 +31,7 @@ returns : tie.Need-returns
 returns c = rw (sym (shown (c .before .before .before .before))) at (c .before .before .line .ensures)
 
 returns-2 : tie.Need-returns-2
-returns-2 c = (omega (arith, ap length (hidden c)), none (c .before .before .before .before .before .args .out .now) (c .before .before .before .before .before .args .at) ∙ rw (hidden c))
+returns-2 c = (omega (arith, ap length (hidden c)), none (c .before .before .before .args .out .now) (c .before .before .before .args .at) ∙ rw (hidden c))
 
 pub row-line-spec : {M : Type 1} → statement M
-row-line-spec =
-    tie.close (tie.spec row-requires listed-requires line-requires same-length returns returns-2)
+row-line-spec = tie.close (tie.spec listed-requires line-requires same-length returns returns-2)
