@@ -3,7 +3,7 @@
 use mathlib.Core.Path.{_≡_, refl, sym, ap, _∙_}
 use mathlib.Core.Bool.{Bool, true, false, cond}
 use mathlib.Core.List.{List, [], _∷_}
-use mathlib.Core.Option.{Option, none, some}
+use mathlib.Core.Option.{some}
 use Prim.Native.Nat.{ℕ, _≤_}
 use native.Mathlib.Omega.{arith}
 use Rattle.tracker.specs.Promise.{Tracker, Outcome, Accepted, Refused, Opening, Condition, numberOf, numberMet, openOf, intervalOf, openConditions, intervalConditions, Came}

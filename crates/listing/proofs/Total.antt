@@ -1,8 +1,8 @@
 -- How long a listing is: the header and at most 288 times 8 lines. A refusal comes in the place of the rows that would follow.
 -- Assumes nothing.
-use mathlib.Core.Path.{_≡_, refl, ap}
+use mathlib.Core.Path.{_≡_, refl}
 use mathlib.Core.Bool.{Bool, true, false, cond}
-use mathlib.Core.List.{List, [], _∷_, _++_}
+use mathlib.Core.List.{List, [], _∷_}
 use Prim.Native.Nat.{ℕ, zero, suc, _+_, _*_, _<_, _≤_}
 use native.Mathlib.Omega.{arith}
 use lib.Dec.{eqb}
@@ -15,7 +15,7 @@ use Rattle.journal.specs.declared.Found.the-variants.{Journal, Refused as NotRe
 use Rattle.journal.specs.Journal.{readOf, recordsOf}
 use Rattle.journal.specs.Journal as J
 use Rattle.journal.proofs.Accept.{records-whole}
-use Rattle.tracker.specs.Promise.{Tracker, Row, Outcome, Accepted, Refused, Came, RowBounds, openOf, intervalOf, rowAnswer, opening}
+use Rattle.tracker.specs.Promise.{Tracker, Row, Outcome, Accepted, Refused, Came, openOf, intervalOf, rowAnswer, opening}
 use Rattle.tracker.proofs.Promise.{came-open, came-interval, row-promise}
 use Rattle.listing.specs.Line.{joined, newline, lineOf, listedOf}
 use Rattle.listing.specs.Listing.{header, ifListed, rowLines, eightRows, runLines, callLines, refusedLine, endedBy, openedLines, recordLines, readLines, bodyLines, linesOf, listingOf, refusedLines, refusedListing}

@@ -1,7 +1,6 @@
 -- The directions' names as the code keeps them: ten bytes each, of which a name and its comma are printed.
-use mathlib.Core.List.{List, [], _∷_, _++_, map}
+use mathlib.Core.List.{List, _++_, map}
 use Prim.Native.Nat.{ℕ, suc}
-use Prim.Native.String.{String}
 use lib.ListN.{length, take}
 use Rattle.text.specs.Ascii.{ascii}
 use Rattle.listing.specs.Line.{names}

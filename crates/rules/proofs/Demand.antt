@@ -13,8 +13,8 @@ use Rattle.rules.specs.declared.Tracker.{Tracker}
 use Rattle.rules.specs.declared.Row.{Row}
 use Rattle.rules.specs.Interval.{Settings, settings, stepOf}
 use Rattle.rules.specs.History.{GotThereWithin, stateAfter}
-use Rattle.rules.specs.Record.{number, eventOf}
-use Rattle.rules.specs.Tracker.{Opening, firstOf, sharesOf, accepts, advanced, intervalOf, after, row, rowOf, run}
+use Rattle.rules.specs.Record.{eventOf}
+use Rattle.rules.specs.Tracker.{Opening, firstOf, accepts, advanced, intervalOf, after, row, rowOf, run}
 use Rattle.rules.specs.Claim.{awaitedAfter, accepted, history, workedRow, DirectionClaim, ClaimOf, Claim}
 use Rattle.rules.proofs.Span.{recent-of}
 use Rattle.rules.proofs.Turn.{nextNumber}

@@ -1,35 +1,34 @@
 -- The bounds of what a tracker keeps, for any that came from an opening and calls: its amount is the claim's sum, and the rest follows
 -- from the rules, direction by direction.
 -- Assumes nothing.
-use mathlib.Core.Path.{_≡_, refl, sym, ap, _∙_, subst}
+use mathlib.Core.Path.{_≡_, refl, sym, ap, _∙_}
 use mathlib.Core.Bool.{Bool, true, false, not, cond, _&&_, _||_}
 use mathlib.Core.List.{List, [], _∷_}
-use Prim.Native.Nat.{ℕ, zero, suc, _+_, _*_, _≤_, _<_, min}
+use Prim.Native.Nat.{ℕ, zero, suc, _+_, _*_, _≤_, _<_}
 use native.Mathlib.Nat.{suc-mul, mul-le-mul-right, le-trans}
 use native.Mathlib.Omega.{arith}
-use lib.Dec.{T, eqb}
+use lib.Dec.{eqb}
 use lib.IntN.{ℤ, pos, negsuc, natAbs, _+ℤ_, +ℤ-idl, +ℤ-idr}
 use lib.ListN.{length, getD, replicate}
 use lib.Signed.{ltZ, leZ-yes}
-use Rattle.signed.specs.Range.{negative, eqZ, Within}
+use Rattle.signed.specs.Range.{eqZ, Within}
 use Rattle.signed.proofs.Parts.{signed, below-zero, ltZ-no}
 use Rattle.signed.proofs.Calc.{abs-add, inside}
 use Rattle.units.specs.declared.Cents.{Cents}
 use Rattle.units.specs.declared.Hundredths.{Hundredths}
-use Rattle.units.specs.Units.{cents, hundredths, lowerOfZero, _+ʰ_}
+use Rattle.units.specs.Units.{hundredths, lowerOfZero, _+ʰ_}
 use Rattle.rules.specs.declared.Event.{Event}
 use Rattle.rules.specs.declared.Sums.{Sums}
 use Rattle.rules.specs.declared.Period.{Period}
 use Rattle.rules.specs.declared.Period.the-variants.{None, Held}
 use Rattle.rules.specs.declared.Counts.{Counts}
-use Rattle.rules.specs.declared.Direction.{Direction}
 use Rattle.rules.specs.declared.Tracker.{Tracker}
-use Rattle.rules.specs.Interval.{Settings, settings, place, clearsAt, swamped, isSwamped, turned, cleared, settled, grown, rule1, rule2, amount, nextOf, held, counted, statusUnbound, statusViolated, quiet, rule5, lower, higher, highestClamp, clampFrom, band, stepFor, offsetFor, rule7, sumsAfter, managedAfter, suspendedAfter, stepOf}
+use Rattle.rules.specs.Interval.{Settings, settings, place, clearsAt, swamped, isSwamped, turned, cleared, grown, rule2, amount, nextOf, held, counted, statusUnbound, statusViolated, quiet, rule5, lower, higher, highestClamp, clampFrom, band, stepFor, offsetFor, rule7, sumsAfter, managedAfter, suspendedAfter, stepOf}
 use Rattle.rules.specs.History.{clearing, sinceClearing, sumNegative, sumSince, stateAfter}
 use Rattle.rules.specs.Record.{number, present, prices, lines, aheadPrices, aheadLines, flag, residue, aheadResidue, eventOf}
 use Rattle.rules.specs.Tracker.{Opening, firstOf, sharesOf, directionOf, rowOf}
 use Rattle.rules.specs.Claim.{awaitedAfter, accepted, history, Came}
-use Rattle.rules.specs.Bounds.{highestResidue, highestNext, highestSum, PeriodBounds, boundedPeriod, Bounds, RowBounds}
+use Rattle.rules.specs.Bounds.{highestResidue, highestNext, highestSum, boundedPeriod, Bounds, RowBounds}
 use Rattle.rules.proofs.Accepted.{Sound}
 use Rattle.rules.proofs.Ranges.{interval-ranged, ahead-ranged, share-bound}
 use Rattle.rules.proofs.Size.{residue-size, lower-size, cond-size}

@@ -4,10 +4,10 @@
 use mathlib.Core.Path.{_≡_, refl, sym, _∙_, subst}
 use mathlib.Core.Bool.{Bool, true, false, not, cond, _&&_, _||_}
 use mathlib.Core.List.{List, [], _∷_}
-use Prim.Native.Nat.{ℕ, zero, suc, _<_}
+use Prim.Native.Nat.{ℕ, suc, _<_}
 use native.Mathlib.Omega.{arith}
 use lib.Dec.{T, eqb}
-use lib.IntN.{ℤ, pos, negsuc, _+ℤ_}
+use lib.IntN.{ℤ, pos, _+ℤ_}
 use lib.ListN.{length, drop}
 use lib.Signed.{ltZ}
 use Rattle.signed.specs.Range.{negative}
@@ -16,7 +16,7 @@ use Rattle.units.specs.declared.Cents.{Cents}
 use Rattle.units.specs.Units.{cents, _+ᶜ_}
 use Rattle.rules.specs.declared.Event.{Event}
 use Rattle.rules.specs.declared.Sums.{Sums}
-use Rattle.rules.specs.Interval.{Settings, place, clearsAt, turned, rule1, rule2, rule4, amount, atThreshold, reached, stepOf}
+use Rattle.rules.specs.Interval.{Settings, place, clearsAt, turned, rule1, rule2, amount, atThreshold, reached, stepOf}
 use Rattle.rules.specs.History.{latestHalfHour, anyNegative, clearing, sinceClearing, sumNegative, sumSince, underReview, gotThere, liesIn, stateAfter}
 use Rattle.rules.proofs.Sum.{Books, books-fresh, books-turned, books-rule2, low}
 use Rattle.rules.proofs.Span.{Span, T-true, both, left, right, advance}

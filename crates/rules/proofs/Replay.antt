@@ -1,21 +1,21 @@
 -- The tracker is the accepted records replayed: what it keeps of a direction is what the rules make of that direction's history.
 -- Assumes nothing.
 use mathlib.Core.Path.{_≡_, refl, sym, ap, _∙_, subst}
-use mathlib.Core.Bool.{Bool, true, false, not, cond, _&&_}
+use mathlib.Core.Bool.{Bool, true, false, not, cond}
 use mathlib.Core.List.{List, [], _∷_, foldl}
-use Prim.Native.Nat.{ℕ, zero, suc, _+_, _≤_, _<_}
+use Prim.Native.Nat.{ℕ, zero, suc, _≤_, _<_}
 use native.Mathlib.Nat.{zero-add}
 use native.Mathlib.Omega.{arith}
-use lib.Dec.{T, eqb}
+use lib.Dec.{T}
 use lib.IntN.{pos}
 use lib.ListN.{length, getD, replicate}
 use Rattle.units.specs.declared.Cents.{Cents}
 use Rattle.rules.specs.declared.Direction.{Direction}
 use Rattle.rules.specs.declared.Tracker.{Tracker}
-use Rattle.rules.specs.Interval.{place, fresh, settings, nextOf, stepOf}
+use Rattle.rules.specs.Interval.{fresh, settings, nextOf, stepOf}
 use Rattle.rules.specs.History.{stateAfter}
 use Rattle.rules.specs.Record.{number, present, aheadResidue, flag, eventOf}
-use Rattle.rules.specs.Tracker.{Opening, opens, firstOf, sharesOf, opened, openOf, blank, directionOf, stepAll, advanced, accepts, intervalOf, after, run}
+use Rattle.rules.specs.Tracker.{Opening, opens, firstOf, sharesOf, openOf, blank, directionOf, stepAll, advanced, accepts, intervalOf, after, run}
 use Rattle.rules.specs.Claim.{awaitedAfter, hear, accepted, history}
 use Rattle.rules.proofs.Accepted.{Sound, accepted-is, opened-is}
 use Rattle.rules.proofs.Each.{length-map, map-at}

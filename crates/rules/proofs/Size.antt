@@ -1,9 +1,9 @@
 -- How large a residue can be, from the ranges of prices, a and b.
 -- Assumes nothing.
 use mathlib.Core.Path.{_≡_, refl}
-use mathlib.Core.Bool.{Bool, true, false, cond, _&&_, Bool·beq}
+use mathlib.Core.Bool.{Bool, true, false, cond, Bool·beq}
 use mathlib.Core.List.{List}
-use Prim.Native.Nat.{ℕ, zero, suc, _+_, _*_, _/_, _≤_, _<_}
+use Prim.Native.Nat.{ℕ, zero, suc, _+_, _*_, _≤_, _<_}
 use native.Mathlib.Omega.{arith}
 use lib.IntN.{ℤ, pos, negsuc, natAbs, _-ℤ_}
 use lib.ListN.{getD}
@@ -16,7 +16,6 @@ use Rattle.units.specs.Units.{cents, lowerOfZero}
 use Rattle.rules.specs.declared.Line.{Line}
 use Rattle.rules.specs.Market.{corridor, corridorOf, reverse}
 use Rattle.rules.specs.Residue.{grainsOf, signed, rounded, price, line, lineGrains, corridorGrains, corridorFlow, residueOf}
-use Rattle.rules.specs.Interval.{nextOf}
 use Rattle.rules.proofs.Ranges.{Ranged, over-lines-bound}
 
 -- The other share of the losses is a share too.

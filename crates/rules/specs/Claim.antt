@@ -1,8 +1,8 @@
 -- Demand 3: a single claim about the whole list of interval calls, all its parts together.
-use mathlib.Core.Bool.{Bool, true, false, not, cond}
+use mathlib.Core.Bool.{true, false, not, cond}
 use mathlib.Core.List.{List, [], _∷_, foldl, map}
 use mathlib.Core.Path.{_≡_}
-use Prim.Native.Nat.{ℕ, zero, suc, _<_}
+use Prim.Native.Nat.{ℕ, suc, _<_}
 use lib.Dec.{T}
 use lib.IntN.{pos}
 use lib.ListN.{length}

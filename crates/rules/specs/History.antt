@@ -1,6 +1,6 @@
 -- Document 01, the words of demand 3 about one direction: what follows from its accepted intervals alone. Nothing here reads a tracker.
 -- A history is the accepted intervals of a direction, the latest first, so that the history as it stood i intervals ago is `drop i`.
-use mathlib.Core.Bool.{Bool, true, false, not, cond, _&&_, _||_}
+use mathlib.Core.Bool.{Bool, false, not, cond, _&&_, _||_}
 use mathlib.Core.List.{List, [], _∷_}
 use Prim.Native.Nat.{ℕ, _<_}
 use lib.Dec.{T, eqb, leb}

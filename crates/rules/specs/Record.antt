@@ -1,5 +1,5 @@
 -- Document 01, "Record, opening, row, journal": the 168 bytes of a record, and what they say of a direction.
-use mathlib.Core.Bool.{Bool, cond, _&&_, _||_}
+use mathlib.Core.Bool.{Bool, cond, _&&_}
 use mathlib.Core.List.{List, [], _∷_}
 use Prim.Native.Nat.{ℕ, _+_, _*_, _-_, _/_, _%_, _^_}
 use lib.Dec.{eqb, ltb}

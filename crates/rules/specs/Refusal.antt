@@ -2,14 +2,14 @@
 use mathlib.Core.Bool.{Bool, true, false, not, cond, _&&_, _||_}
 use mathlib.Core.List.{List, [], _∷_}
 use mathlib.Core.Option.{Option, none, some}
-use Prim.Native.Nat.{ℕ, zero, suc, _+_, _*_, _/_, _%_}
+use Prim.Native.Nat.{ℕ, zero, suc, _+_, _*_, _/_}
 use lib.Dec.{eqb, leb, ltb}
 use lib.ListN.{length, getD}
 use Rattle.rules.specs.declared.Outcome.{Outcome}
 use Rattle.rules.specs.declared.Outcome.the-variants.{Accepted, Refused}
 use Rattle.rules.specs.Market.{priceOk, flowOk, lossOk}
 use Rattle.rules.specs.Interval.{place}
-use Rattle.rules.specs.Record.{byteAt, u32At, number, flags, present, statusByte, zeroBytes, price, metered, target, losses, aheadPrice, aheadFlow, aheadLosses}
+use Rattle.rules.specs.Record.{u32At, number, flags, present, statusByte, zeroBytes, price, metered, target, losses, aheadPrice, aheadFlow, aheadLosses}
 
 -- The number that document 01 gives an outcome: an acceptance has none.
 abbrev pub numberOf : Outcome → Option ℕ

@@ -1,6 +1,6 @@
 -- Document 01, "Residue": in grains for a physical interconnector, in cents for a corridor, and the direction that it is assigned to.
-use mathlib.Core.Bool.{Bool, cond, Bool·beq}
-use mathlib.Core.List.{List, [], _∷_}
+use mathlib.Core.Bool.{cond, Bool·beq}
+use mathlib.Core.List.{List}
 use Prim.Native.Nat.{ℕ, zero, suc, _+_, _/_}
 use lib.IntN.{ℤ, pos, negsuc, natAbs, _+ℤ_, _-ℤ_, _*ℤ_}
 use lib.ListN.{getD}

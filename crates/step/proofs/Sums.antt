@@ -1,7 +1,7 @@
 -- How large rules 1 and 2 leave the sums.
 -- Assumes nothing.
 use mathlib.Core.Bool.{Bool, true, false, _&&_}
-use Prim.Native.Nat.{ℕ, _+_, _≤_}
+use Prim.Native.Nat.{_+_, _≤_}
 use native.Mathlib.Omega.{arith}
 use native.Mathlib.Nat.{le-trans}
 use lib.IntN.{pos, natAbs}
@@ -10,7 +10,7 @@ use Rattle.signed.proofs.Calc.{abs-add}
 use Rattle.units.specs.declared.Cents.{Cents}
 use Rattle.units.specs.Units.{lowerOfZero}
 use Rattle.rules.specs.declared.Sums.{Sums}
-use Rattle.rules.specs.Interval.{turned, grown, cleared, settled, rule2, amount}
+use Rattle.rules.specs.Interval.{turned, grown, cleared, rule2, amount}
 use Rattle.rules.specs.Bounds.{highestResidue, highestSum}
 use Rattle.rules.proofs.Size.{lower-size}
 use Rattle.step.specs.Range.{Countable, Growable, Addable}

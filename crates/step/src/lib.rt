@@ -10,10 +10,10 @@ use units::Hundredths;
 ghost use mathlib.Core.Bool.{cond, _&&_};
 ghost use mathlib.Core.Path.{_≡_};
 ghost use lib.Dec.{eqb};
-ghost use Prim.Native.Nat.{ℕ, _+_, _<_, _≤_};
+ghost use Prim.Native.Nat.{_+_, _<_, _≤_};
 ghost use lib.IntN.{pos, natAbs};
 ghost use Rattle.units.specs.Units.{hundredths};
-ghost use Rattle.rules.specs.Interval.{settings, place, clearsAt, isSwamped, rule1, grown, settled, rule2, amount, reached, started, extends, kept, ended, rule4, held, quiet, counted, rule5, rule6, band, stepFor, offsetFor, lower, higher, clampFrom, rule7, stepOf};
+ghost use Rattle.rules.specs.Interval.{settings, place, clearsAt, isSwamped, rule1, grown, settled, rule2, amount, reached, started, extends, kept, ended, rule4, held, quiet, counted, rule5, rule6, band, stepFor, lower, higher, clampFrom, rule7, stepOf};
 ghost use Rattle.rules.specs.Bounds.{highestResidue, highestNext, highestSum, boundedPeriod};
 ghost use Rattle.step.specs.Range.{Countable, Growable, Addable, Steppable};
 

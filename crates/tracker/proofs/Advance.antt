@@ -1,13 +1,12 @@
 -- A tracker that came from an opening and calls takes an accepted record: its numbers are in range, and each direction can be stepped.
 -- Assumes nothing.
-use mathlib.Core.Bool.{Bool, true, false}
+use mathlib.Core.Bool.{true}
 use mathlib.Core.List.{List}
 use mathlib.Core.Path.{_≡_, refl, sym, subst}
-use Prim.Native.Nat.{ℕ, _+_, _≤_, _<_}
+use Prim.Native.Nat.{ℕ, _≤_, _<_}
 use native.Mathlib.Decide.{decLt}
 use native.Mathlib.Omega.{arith}
 use lib.ListN.{length, getD, List·getD-eq-default}
-use Rattle.rules.specs.declared.Direction.{Direction}
 use Rattle.rules.specs.declared.Event.{Event}
 use Rattle.rules.specs.declared.Tracker.{Tracker}
 use Rattle.rules.specs.Interval.{settings, stepOf}

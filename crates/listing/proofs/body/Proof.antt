@@ -1,6 +1,6 @@
 -- `listing::body` meets its contract: what the read finds decides.
 -- Assumes nothing.
-use mathlib.Core.Path.{_≡_, ap, sym, _∙_}
+use mathlib.Core.Path.{_≡_, ap, sym}
 use native.Mathlib.Omega.{arith}
 use lib.ListN.{length}
 use Rattle.journal.specs.Journal.{recordsOf}

@@ -3,7 +3,7 @@
 use mathlib.Core.Path.{_≡_, refl, ap}
 use mathlib.Core.Bool.{false}
 use mathlib.Core.List.{List, []}
-use Prim.Native.Nat.{ℕ, _<_, _≤_}
+use Prim.Native.Nat.{ℕ, _<_}
 use native.Mathlib.Omega.{arith}
 use borrow.Author.Tests.{ltb-false}
 use lib.Dec.{ltb}

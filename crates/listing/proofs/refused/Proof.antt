@@ -1,9 +1,7 @@
 -- `listing::refused` meets its contract: the word, then the number.
 -- Assumes nothing.
-use Prim.Native.Nat.{ℕ}
 use native.Mathlib.Omega.{arith}
-use mathlib.Core.List.{List}
-use lib.ListN.{length, length-append}
+use lib.ListN.{length-append}
 use Rattle.text.specs.Ascii.{ascii}
 use Rattle.text.specs.Text.{countOf}
 use Rattle.text.proofs.Upto.{start, step, last, end-held, end-place}

@@ -1,9 +1,9 @@
 -- `listing::refused_listing` meets its contract: the header, then the refusal's line. A number of one byte has at most three digits.
 -- Assumes nothing.
 use native.Mathlib.Omega.{arith}
-use lib.ListN.{length, length-append}
+use lib.ListN.{length-append}
 use Rattle.listing.specs.Line.{joined}
-use Rattle.listing.specs.Listing.{header, refusedLine, refusedLines, refusedListing}
+use Rattle.listing.specs.Listing.{header, refusedLine, refusedLines}
 use Rattle.listing.proofs.Joins.{joined-one}
 use Rattle.listing.proofs.Total.{refused-listing-short}
 use Rattle.listing.proofs.Whole.{whole}

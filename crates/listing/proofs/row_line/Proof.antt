@@ -1,7 +1,7 @@
 -- `listing::row_line` meets its contract: the row's line where it is listed, and nothing where it is not.
 -- Assumes nothing.
 use mathlib.Core.Path.{_≡_, ap, sym, _∙_}
-use mathlib.Core.List.{List, []}
+use mathlib.Core.List.{[]}
 use native.Mathlib.Omega.{arith}
 use lib.ListN.{length}
 use borrow.Author.Needs.{needs}

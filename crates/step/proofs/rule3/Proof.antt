@@ -1,7 +1,7 @@
 -- `step::rule3` meets its contract: the total is compared as the definition does.
 -- Assumes nothing.
 use mathlib.Core.Path.{_≡_, sym, ap, _∙_}
-use mathlib.Core.Bool.{Bool, true, false}
+use mathlib.Core.Bool.{true, false}
 use native.Mathlib.Omega.{arith}
 use Rattle.signed.proofs.Calc.{sum-fits}
 use Rattle.units.specs.declared.Cents.{Cents}

@@ -1,9 +1,8 @@
 -- `step::rule7` meets its contract: swamped, or moved by the step of the direction and the band of net.
 -- Assumes nothing.
 use mathlib.Core.Bool.{Bool, true, false, cond}
-use mathlib.Core.Path.{_≡_, sym, _∙_}
+use mathlib.Core.Path.{sym, _∙_}
 use Prim.Native.Nat.{ℕ, _≤_}
-use native.Mathlib.Omega.{arith}
 use lib.IntN.{natAbs}
 use Rattle.units.specs.declared.Hundredths.{Hundredths}
 use Rattle.rules.specs.Interval.{isSwamped}

@@ -1,12 +1,9 @@
 -- `step::step` meets its contract: each rule's result is the definition's, and each rule's ranges follow from the state's bounds.
 -- Assumes nothing.
-use mathlib.Core.Path.{_≡_, refl, ap, _∙_}
+use mathlib.Core.Path.{_≡_}
 use native.Mathlib.Omega.{arith}
 use lib.Dec.{eqb}
-use lib.IntN.{pos, natAbs}
 use Rattle.signed.proofs.Calc.{inside}
-use Rattle.rules.specs.declared.Sums.{Sums}
-use Rattle.rules.specs.declared.Managed.{Managed}
 use Rattle.rules.specs.Interval.{settings, place, clearsAt, rule1, sumsAfter, managedAfter, countsAfter, suspendedAfter, stepOf}
 use Rattle.step.specs.Range.{Countable, Growable, Addable}
 use Rattle.step.proofs.Sums.{turned-countable, rule2-addable, amount-size}

@@ -1,6 +1,6 @@
 -- `tracker::advanced` meets its contract: the events are the record's, and the directions are stepped by them.
 -- Assumes nothing.
-use mathlib.Core.Path.{_≡_, ap, _∙_}
+use mathlib.Core.Path.{_≡_}
 use native.Mathlib.Numerals.{add-one}
 use native.Mathlib.Omega.{arith}
 use borrow.Author.Needs.{needs}

@@ -1,8 +1,6 @@
 -- `tracker::interval` meets its contract: what is judged decides, and what the equation brings with it is the claim of the longer list.
 -- Assumes nothing.
 use mathlib.Core.Path.{_≡_, sym, ap, _∙_}
-use mathlib.Core.Bool.{true}
-use Rattle.rules.specs.declared.Outcome.{Outcome}
 use Rattle.rules.specs.declared.Outcome.the-variants.{Accepted, Refused}
 use Rattle.rules.specs.Refusal.{isAccepted, intervalOutcome}
 use Rattle.rules.specs.Tracker.{intervalOf}

@@ -1,6 +1,5 @@
 -- `tracker::open` meets its contract: each return is under its condition, and what it brings with it is the claim of the empty list.
 -- Assumes nothing.
-use mathlib.Core.Bool.{Bool, true, false}
 use mathlib.Core.Path.{_≡_, sym, _∙_}
 use Prim.Native.Nat.{_%_}
 use native.Mathlib.Omega.{arith}

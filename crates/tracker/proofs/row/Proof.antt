@@ -1,6 +1,5 @@
 -- `tracker::row` meets its contract: 17 with the row of zeros, or the direction's row, which is the one worked out.
 -- Assumes nothing.
-use native.Mathlib.Omega.{arith}
 use borrow.Author.Tests.{lt-ltb, le-ltb}
 use Rattle.rules.specs.Refusal.{rowConditions, rowOutcome}
 use Rattle.rules.specs.Tracker.{rowAnswer}
