@@ -4,45 +4,29 @@ use journal::Found;
 use rules::Outcome;
 use rules::Row;
 use rules::Tracker;
-ghost use mathlib.Core.List.{[]};
 ghost use mathlib.Core.Path.{_≡_};
 ghost use Prim.Native.Nat.{ℕ, _+_, _%_, _<_, _≤_};
-ghost use lib.ListN.{length, getD};
+ghost use lib.ListN.{length};
 ghost use Rattle.io.specs.Counts.{Counts};
 ghost use Rattle.text.specs.Text.{countOf, pasted, over};
 ghost use Rattle.tracker.specs.Promise.{Came, RowBounds, rowAnswer};
 ghost use Rattle.journal.specs.Journal as J;
 ghost use Rattle.listing.specs.Line.{comma, mark, nameOf, joined, amountsOf, lineOf, listedOf};
-ghost use Rattle.listing.specs.Table.{keptNames, keptLengths};
+ghost use Rattle.listing.specs.Table.{keptNames};
 ghost use Rattle.listing.specs.Shown.{shownRows};
 ghost use Rattle.listing.specs.Listing.{header, refusedLine, ifListed, eightRows, runLines, recordLines, bodyLines, listingOf, refusedListing};
 
-// The directions' names, each with its comma. The last four are one byte shorter: their last byte is not printed.
-const NAMES: [[u8; 10]; 8] = [
-    *b"NSW1_QLD1,",
-    *b"QLD1_NSW1,",
-    *b"VIC1_NSW1,",
-    *b"NSW1_VIC1,",
-    *b"VIC1_SA1, ",
-    *b"SA1_VIC1, ",
-    *b"NSW1_SA1, ",
-    *b"SA1_NSW1, ",
-];
-
-const LENGTHS: [usize; 8] = [10, 10, 10, 10, 9, 9, 9, 9];
-
-fn kept_name(d: usize) -> [u8; 10]
-    requires { ⌜ d < 8 ⌝ }
-    ensures { λ r. ⌜ r ≡ getD keptNames d [] ⌝ }
+// Of the names, ten bytes apart, direction d's with its comma: the last four are a byte shorter than that.
+fn name_among(names: &[u8], d: usize, out: &mut [u8], at: usize) -> usize
+    requires { ⌜ (now names ≡ keptNames) × ((d < 8) × (at + length (nameOf d) ≤ length (now out))) ⌝ }
+    ensures { λ r. ⌜ r ≡ at + length (nameOf d) ⌝ }
+    ensures { λ r. ⌜ now (out .exit) ≡ pasted at (nameOf d) (now (out .entry)) ⌝ }
 {
-    NAMES[d]
-}
-
-fn kept_length(d: usize) -> usize
-    requires { ⌜ d < 8 ⌝ }
-    ensures { λ r. ⌜ r ≡ getD keptLengths d 0 ⌝ }
-{
-    LENGTHS[d]
+    let from = 10 * d;
+    if d < 4 {
+        return text::text(&names[from..from + 10], out, at);
+    }
+    text::text(&names[from..from + 9], out, at)
 }
 
 // A direction's name, and a comma.
@@ -51,9 +35,12 @@ fn name(d: usize, out: &mut [u8], at: usize) -> usize
     ensures { λ r. ⌜ r ≡ at + length (nameOf d) ⌝ }
     ensures { λ r. ⌜ now (out .exit) ≡ pasted at (nameOf d) (now (out .entry)) ⌝ }
 {
-    let bytes = kept_name(d);
-    let n = kept_length(d);
-    text::text(&bytes[..n], out, at)
+    name_among(
+        b"NSW1_QLD1,QLD1_NSW1,VIC1_NSW1,NSW1_VIC1,VIC1_SA1, SA1_VIC1, NSW1_SA1, SA1_NSW1, ",
+        d,
+        out,
+        at,
+    )
 }
 
 fn mark(yes: bool) -> u8
