@@ -1,6 +1,6 @@
 -- Document 01, "Figures to prove (P)": one table about the definitions.
 use mathlib.Core.Bool.{Bool, true, false}
-use mathlib.Core.List.{List, [], _∷_, _++_}
+use mathlib.Core.List.{List, [], _∷_, _++_, map}
 use mathlib.Core.Path.{_≡_}
 use Prim.Native.Nat.{ℕ}
 use lib.IntN.{ℤ, pos}
@@ -11,6 +11,7 @@ use Rattle.units.specs.declared.Hundredths.{Hundredths}
 use Rattle.units.specs.Units.{cents, hundredths, grains}
 use Rattle.rules.specs.declared.Line.{Line}
 use Rattle.rules.specs.declared.Event.{Event}
+use Rattle.rules.specs.declared.Row.{Row}
 use Rattle.rules.specs.declared.Period.the-variants.{Held}
 use Rattle.rules.specs.declared.Outcome.the-variants.{Accepted}
 use Rattle.rules.specs.Residue.{intervalLine, aheadLine, rounded, residueOf}
@@ -18,6 +19,7 @@ use Rattle.rules.specs.Interval.{settings, reached, band, stepFor, offse
 use Rattle.rules.specs.History.{stateAfter}
 use Rattle.rules.specs.Record.{residue}
 use Rattle.rules.specs.Refusal.{intervalOutcome}
+use Rattle.rules.specs.Tracker.{rowAnswer, run}
 
 -- All shares 500.
 abbrev pub halves : List ℕ
@@ -47,6 +49,10 @@ theRecord =
     ++ (48 ∷ 117 ∷ 0 ∷ 0 ∷ 48 ∷ 117 ∷ 0 ∷ 0 ∷ [])
     ++ replicate 104 0
 
+-- The row of VIC1_NSW1 after that record, of a tracker opened at 0.
+abbrev pub theRow : Row
+theRow = rowAnswer (run (record { first = 0; shares = halves }) (theRecord ∷ [])) 2 .row
+
 -- Interval n with residue r: flag 1, no estimate, no review, unbound.
 abbrev pub at : ℕ → ℤ → Event
 at n r = record {
@@ -71,6 +77,13 @@ until11 = at 11 (minus 10000000) ∷ at 10 (pos 0) ∷ at 9 (pos 0) ∷ at 8 (po
 abbrev pub stepAt : ℕ → ℤ → Hundredths
 stepAt d net = stepFor settings d (band settings (cents net))
 
+-- The steps of all eight at net, and the flags of directions 2-7 at a loop sum while the loop is operating.
+abbrev pub eachStep : ℤ → List Hundredths
+eachStep net = map (λ d. stepAt d net) (0 ∷ 1 ∷ 2 ∷ 3 ∷ 4 ∷ 5 ∷ 6 ∷ 7 ∷ [])
+
+abbrev pub loopFlags : ℤ → List Bool
+loopFlags sum = map (λ d. flagOf true (cents sum) d) (2 ∷ 3 ∷ 4 ∷ 5 ∷ 6 ∷ 7 ∷ [])
+
 -- Whether a total without review is reached.
 abbrev pub reaches : ℤ → Bool
 reaches total = reached settings (at 0 (pos 0)) (cents total)
@@ -79,6 +92,7 @@ pub record Figures : Type 0 where
   -- P1 the case above: -375,000.
   pub P1 : onVIC1-NSW1 (flowing (pos 0)) ≡ cents (minus 375000)
   pub P1-record : (intervalOutcome 0 theRecord ≡ Accepted) × (residue halves theRecord 2 ≡ cents (minus 375000))
+  pub P1-row : (theRow .amount ≡ cents (minus 375000)) × (theRow .previous ≡ cents (pos 0)) × (theRow .current ≡ cents (minus 375000)) × (theRow .applies ≡ false)
   -- P2 with losses 1,200, share 500: -377,500.
   pub P2 : onVIC1-NSW1 (flowing (pos 1200)) ≡ cents (minus 377500)
   -- P3 grains 1,199,999 give 0; 1,200,000 give 1.
@@ -97,8 +111,8 @@ pub record Figures : Type 0 where
   -- P9 direction 4, net -500,000: step -3,000; -500,001: -5,000.
   pub P9 : (stepAt 4 (minus 500000) ≡ hundredths (minus 3000)) × (stepAt 4 (minus 500001) ≡ hundredths (minus 5000))
   -- P10 net -100,000 and 99,999: 0.
-  pub P10 : (stepAt 4 (minus 100000) ≡ hundredths (pos 0)) × (stepAt 4 (pos 99999) ≡ hundredths (pos 0))
+  pub P10 : (eachStep (minus 100000) ≡ replicate 8 (hundredths (pos 0))) × (eachStep (pos 99999) ≡ replicate 8 (hundredths (pos 0)))
   -- P11 base 5,000, step -10,000: 2,000.
   pub P11 : clampFrom (hundredths (pos 5000)) (hundredths (minus 10000)) (offsetFor settings 0) ≡ hundredths (pos 2000)
   -- P12 loop sum 0: flag 0; -1: flag 1.
-  pub P12 : (flagOf true (cents (pos 0)) 2 ≡ false) × (flagOf true (cents (minus 1)) 2 ≡ true)
+  pub P12 : (loopFlags (pos 0) ≡ replicate 6 false) × (loopFlags (minus 1) ≡ replicate 6 true)
