@@ -1,12 +1,12 @@
 -- What a record says of a direction, once its residues are worked out.
-use mathlib.Core.Bool.{true, false, cond}
+use mathlib.Core.Bool.{true, cond}
 use mathlib.Core.List.{List}
 use mathlib.Core.Path.{_≡_}
 use Prim.Native.Nat.{ℕ, _≤_}
 use lib.IntN.{pos}
 use lib.ListN.{getD, replicate}
 use Rattle.units.specs.declared.Cents.{Cents}
-use Rattle.units.specs.Units.{cents, hundredths}
+use Rattle.units.specs.Units.{cents}
 use Rattle.rules.specs.declared.Event.{Event}
 use Rattle.rules.specs.Interval.{flagOf, nextOf}
 use Rattle.rules.specs.Record.{number, reviewed, operating, present, status, blocked, aheadResidue, targetSum}
@@ -32,17 +32,4 @@ eventFrom residues ahead sum d b = record {
   status = status b d;
   blocked = blocked b d;
   target = targetSum b d;
-}
-
--- what is not said
-abbrev pub noEvent : Event
-noEvent = record {
-  n = 0;
-  flag = false;
-  residue = cents (pos 0);
-  next = cents (pos 0);
-  review = false;
-  status = 0;
-  blocked = false;
-  target = hundredths (pos 0);
 }

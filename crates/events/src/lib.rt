@@ -43,7 +43,7 @@ fn event(s: &[u8], residues: [Cents; 8], ahead: [Cents; 8], loop_sum: Cents, d: 
 {
     let flags = s[FLAGS];
     let status = s[STATUS + d];
-    let n = record::u32_at(s, 0);
+    let n = words::u32_at(s, 0);
     let flag = residue::flag(record::is_operating(flags), loop_sum, d);
     let own = residues[d];
     let next = residue::next(flag, n, record::has_ahead(flags), ahead[d]);

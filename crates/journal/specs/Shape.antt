@@ -1,14 +1,9 @@
 -- What the functions rely on once the length and the trailer have been tested, and once records have been.
 use mathlib.Core.Path.{_≡_}
 use mathlib.Core.List.{List}
-use Prim.Native.Nat.{ℕ, _+_, _*_, _%_, _<_, _≤_}
-use lib.ListN.{length, getD}
+use Prim.Native.Nat.{ℕ, _+_, _*_, _%_, _≤_}
+use lib.ListN.{length}
 use Rattle.journal.specs.Journal.{count, distance, countOf}
-
--- a byte, as it is read
-pub record IsByte (s : List ℕ) (at r : ℕ) : Type 0 where
-  pub is : r ≡ getD s at 0
-  pub small : r < 256
 
 -- the trailer points at records that are inside
 pub record Shaped (s : List ℕ) : Type 0 where

@@ -5,8 +5,8 @@ ghost use mathlib.Core.Path.{_≡_};
 ghost use Prim.Native.Nat.{_+_, _*_, _<_, _≤_};
 ghost use lib.ListN.{length};
 ghost use Rattle.text.specs.Text.{over};
-ghost use Rattle.journal.specs.Journal.{u32At, numberAt, firstOf, lastOf, follows, inOrder, trailer, part, badLength, badTrailer, badNumbers, badRecords, readOutcome, readOf, recordsOf, journalOf, writeOutcome, writtenOf, bufferOf};
-ghost use Rattle.journal.specs.Shape.{IsByte, Shaped, Whole};
+ghost use Rattle.journal.specs.Journal.{numberAt, firstOf, lastOf, follows, inOrder, trailer, part, badLength, badTrailer, badNumbers, badRecords, readOutcome, readOf, recordsOf, journalOf, writeOutcome, writtenOf, bufferOf};
+ghost use Rattle.journal.specs.Shape.{Shaped, Whole};
 ghost use Rattle.journal.specs.RoundTrip.{ReadsBack, WritesBack};
 
 // What a read gives: count, first n and last n, or a refusal's number.
@@ -35,27 +35,12 @@ const FIRST: usize = 2;
 
 const LAST: usize = 3;
 
-// One byte, widened for the sums of `u32_at`.
-fn byte(s: &[u8], at: usize) -> u32
-    requires { ⌜ at < length (now s) ⌝ }
-    ensures { λ r. ⌜ IsByte (now (s .entry)) at r ⌝ }
-{
-    s[at] as u32
-}
-
-fn u32_at(s: &[u8], at: usize) -> u32
-    requires { ⌜ at + 4 ≤ length (now s) ⌝ }
-    ensures { λ r. ⌜ r ≡ u32At (now (s .entry)) at ⌝ }
-{
-    byte(s, at) + 256 * byte(s, at + 1) + 65536 * byte(s, at + 2) + 16777216 * byte(s, at + 3)
-}
-
 // The n of record i, which a record starts with.
 fn number_at(records: &[u8], i: usize) -> u32
     requires { ⌜ 168 * i + 4 ≤ length (now records) ⌝ }
     ensures { λ r. ⌜ r ≡ numberAt (now (records .entry)) i ⌝ }
 {
-    u32_at(records, RECORD * i)
+    words::u32_at(records, RECORD * i)
 }
 
 fn first_of(records: &[u8]) -> u32
@@ -104,7 +89,7 @@ fn trailer(journal: &[u8], k: usize) -> u32
     requires { ⌜ (16 ≤ length (now journal)) × (k < 4) ⌝ }
     ensures { λ r. ⌜ r ≡ trailer (now (journal .entry)) k ⌝ }
 {
-    u32_at(journal, journal.len() - TRAILER + 4 * k)
+    words::u32_at(journal, journal.len() - TRAILER + 4 * k)
 }
 
 fn bad_length(journal: &[u8]) -> bool

@@ -1,16 +1,12 @@
 -- Numbers as they are read from bytes: which they are, and how large they can be.
 use mathlib.Core.Path.{_≡_}
 use mathlib.Core.List.{List}
-use Prim.Native.Nat.{ℕ, _+_, _*_, _<_, _≤_}
+use Prim.Native.Nat.{ℕ, _+_, _*_, _≤_}
 use lib.IntN.{ℤ, natAbs}
 use Rattle.units.specs.declared.Cents.{Cents}
 use Rattle.units.specs.declared.Hundredths.{Hundredths}
 use Rattle.units.specs.Units.{cents, hundredths}
-use Rattle.rules.specs.Record.{byteAt, i32At}
-
-pub record IsByte (b : List ℕ) (at r : ℕ) : Type 0 where
-  pub is : r ≡ byteAt b at
-  pub small : r < 256
+use Rattle.rules.specs.Record.{i32At}
 
 -- An i32 is of magnitude 2 ^ 31 at most.
 pub record IsI32 (b : List ℕ) (at : ℕ) (r : ℤ) : Type 0 where

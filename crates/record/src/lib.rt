@@ -9,11 +9,11 @@ ghost use Prim.Native.Nat.{_+_, _*_, _%_, _<_, _≤_};
 ghost use lib.ListN.{length};
 ghost use Rattle.units.specs.Units.{cents};
 ghost use Rattle.rules.specs.Market.{priceOk, flowOk, lossOk};
-ghost use Rattle.rules.specs.Record.{u32At, i32At, bit, zeroBytes, ofRegions, prices, lineOf, lines, aheadPrices, aheadLineOf, aheadLines, targetSum};
+ghost use Rattle.rules.specs.Record.{i32At, bit, zeroBytes, ofRegions, prices, lineOf, lines, aheadPrices, aheadLineOf, aheadLines, targetSum};
 ghost use Rattle.rules.specs.Refusal.{each, statusOk, badFlags, badStatus, badPrice, lineOk, badFlow, aheadLineOk, aheadZero, aheadInside, badAhead, intervalOutcome};
 ghost use Rattle.record.specs.Check.{aheadMisplaced, regionOk};
 ghost use Rattle.record.specs.Lines.{IsCorridor, IsTargetOf};
-ghost use Rattle.record.specs.Read.{IsByte, IsI32, priceFrom, IsHundredths};
+ghost use Rattle.record.specs.Read.{IsI32, priceFrom, IsHundredths};
 
 // Where a record has its flags, the four prices of the interval, and pre-dispatch, which starts with its four prices.
 const FLAGS: usize = 4;
@@ -24,28 +24,13 @@ const AHEAD: usize = 104;
 
 const LAST_NUMBER: u32 = 1051199;
 
-// One byte, widened for the sums of `u32_at`.
-fn byte(s: &[u8], at: usize) -> u32
-    requires { ⌜ at < length (now s) ⌝ }
-    ensures { λ r. ⌜ IsByte (now (s .entry)) at r ⌝ }
-{
-    s[at] as u32
-}
-
-pub fn u32_at(s: &[u8], at: usize) -> u32
-    requires { ⌜ at + 4 ≤ length (now s) ⌝ }
-    ensures { λ r. ⌜ r ≡ u32At (now (s .entry)) at ⌝ }
-{
-    byte(s, at) + 256 * byte(s, at + 1) + 65536 * byte(s, at + 2) + 16777216 * byte(s, at + 3)
-}
-
 // An i32, as the i64 that is computed with. That it is no larger than an i32 is what lets callers add and multiply what they read.
 fn int_at(s: &[u8], at: usize) -> i64
     requires { ⌜ at + 4 ≤ length (now s) ⌝ }
     ensures { λ r. ⌜ IsI32 (now (s .entry)) at r ⌝ }
 {
     // Without a branch: one load, sign-extended.
-    let u = u32_at(s, at) as u64;
+    let u = words::u32_at(s, at) as u64;
     ((u + 2147483648) % 4294967296) as i64 - 2147483648
 }
 
@@ -148,7 +133,7 @@ fn ahead_misplaced(s: &[u8]) -> bool
     ensures { λ r. ⌜ r ≡ aheadMisplaced (now (s .entry)) ⌝ }
 {
     if has_ahead(s[FLAGS]) {
-        u32_at(s, 0) % 6 != 5
+        words::u32_at(s, 0) % 6 != 5
     } else {
         false
     }
@@ -307,7 +292,7 @@ pub fn ahead_zero(s: &[u8]) -> bool
     ensures { λ r. ⌜ r ≡ aheadZero (now (s .entry)) ⌝ }
 {
     for i in 0usize..16 {
-        if u32_at(s, AHEAD + 4 * i) != 0 {
+        if words::u32_at(s, AHEAD + 4 * i) != 0 {
             return false;
         }
     }
@@ -332,7 +317,7 @@ pub fn judged(awaited: u32, s: &[u8]) -> Outcome
     if s.len() != 168 {
         return Outcome::Refused(1);
     }
-    let n = u32_at(s, 0);
+    let n = words::u32_at(s, 0);
     if LAST_NUMBER < n {
         return Outcome::Refused(2);
     }

@@ -20,10 +20,10 @@ use Rattle.rules.proofs.Limits.{event-size, bounds}
 use Rattle.rules.proofs.Replay.{event-number}
 use Rattle.rules.proofs.Ranges.{target-sum-bound, share-bound}
 use Rattle.residue.specs.Directions.{ofDirections}
-use Rattle.events.specs.Event.{Readable, noEvent}
+use Rattle.events.specs.Event.{Readable}
 use Rattle.events.proofs.Says.{at-direction}
 use Rattle.step.specs.Range.{Steppable}
-use Rattle.tracker.specs.Steps.{AllSteppable, allStepped}
+use Rattle.tracker.specs.Steps.{noEvent, AllSteppable, allStepped}
 
 event-target : (shares : List ℕ) (d : ℕ) (b : List ℕ) → eventOf shares d b .target ≡ targetSum b d
 unfolding eventOf

@@ -1,7 +1,10 @@
 -- What the functions below the calls are asked and give.
+use mathlib.Core.Bool.{false}
 use mathlib.Core.List.{List}
 use Prim.Native.Nat.{ℕ, _<_}
+use lib.IntN.{pos}
 use lib.ListN.{getD, replicate}
+use Rattle.units.specs.Units.{cents, hundredths}
 use Rattle.rules.specs.declared.Direction.{Direction}
 use Rattle.rules.specs.declared.Event.{Event}
 use Rattle.rules.specs.declared.Answer.{Answer}
@@ -9,7 +12,19 @@ use Rattle.rules.specs.declared.Outcome.the-variants.{Refused}
 use Rattle.rules.specs.Interval.{settings, fresh, stepOf}
 use Rattle.rules.specs.Tracker.{tracker, blank, mapFrom}
 use Rattle.step.specs.Range.{Steppable}
-use Rattle.events.specs.Event.{noEvent}
+
+-- stands where a list of events ends
+abbrev pub noEvent : Event
+noEvent = record {
+  n = 0;
+  flag = false;
+  residue = cents (pos 0);
+  next = cents (pos 0);
+  review = false;
+  status = 0;
+  blocked = false;
+  target = hundredths (pos 0);
+}
 
 abbrev pub refusedOpening : ℕ → Answer
 refusedOpening k = record { outcome = Refused k; tracker = tracker (replicate 6 0) 0 0 (replicate 8 fresh) }

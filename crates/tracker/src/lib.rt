@@ -132,7 +132,7 @@ fn advanced(t: Tracker, bytes: &[u8]) -> Tracker
     let events = events::events(shares, bytes);
     let kept = t.directions;
     let directions = step_all(events, kept);
-    let n = record::u32_at(bytes, 0);
+    let n = words::u32_at(bytes, 0);
     Tracker {
         shares: shares,
         shown: n,

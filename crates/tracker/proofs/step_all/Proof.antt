@@ -11,7 +11,7 @@ use Rattle.rules.specs.declared.Event.{Event}
 use Rattle.rules.specs.Interval.{settings, stepOf}
 use Rattle.rules.specs.Tracker.{blank}
 use Rattle.rules.proofs.Each.{partly, still, turn, whole}
-use Rattle.events.specs.Event.{noEvent}
+use Rattle.tracker.specs.Steps.{noEvent}
 use Rattle.tracker.proofs.step_all.Statement.{statement}
 use Rattle.tracker.proofs.step_all.Tie as tie
 

@@ -1,9 +1,10 @@
--- `record::u32_at` meets its contract: four bytes, the lowest first.
+-- `words::u32_at` meets its contract: four bytes, the lowest first.
 -- Assumes nothing.
+use native.Mathlib.Omega.{arith}
 use borrow.Author.Needs.{needs}
 use Rattle.rules.specs.Record.{u32At}
-use Rattle.record.proofs.u32_at.Statement.{statement}
-use Rattle.record.proofs.u32_at.Tie as tie
+use Rattle.words.proofs.u32_at.Statement.{statement}
+use Rattle.words.proofs.u32_at.Tie as tie
 
 byte-requires : tie.Need-byte-requires
 byte-requires c κs = search needs
@@ -46,7 +47,7 @@ add-result-3 c = search needs
 
 returns : tie.Need-returns
 unfolding u32At
-returns c = search needs
+returns c = omega arith
 
 pub u32-at-spec : {M : Type 1} → statement M
 u32-at-spec =

@@ -1,10 +1,10 @@
--- `journal::byte` meets its contract: an element of a slice of bytes is below 256.
+-- `words::byte` meets its contract: an element of a slice of bytes is below 256.
 -- Assumes nothing.
 use mathlib.Core.Path.{refl}
 use native.Mathlib.Omega.{arith}
 use borrow.Author.Needs.{needs}
-use Rattle.journal.proofs.byte.Statement.{statement}
-use Rattle.journal.proofs.byte.Tie as tie
+use Rattle.words.proofs.byte.Statement.{statement}
+use Rattle.words.proofs.byte.Tie as tie
 
 shared-slice-read-result : tie.Need-shared-slice-read-result
 shared-slice-read-result c = search needs

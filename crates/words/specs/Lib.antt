@@ -1,0 +1,2 @@
+-- A byte as it is read.
+pub mod Byte
