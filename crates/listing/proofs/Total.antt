@@ -42,7 +42,7 @@ rows-short t came zero d h = omega arith
 rows-short t came (suc left) d h =
     let r = rowAnswer t d .row in
     let p = row-promise t came d refl in
-    let a = row-short-by r (line-short r (p .bounded (omega arith))) (listedOf r) in
+    let a = row-short-by r (line-short r (p .bounded)) (listedOf r) in
     let b = rows-short t came left (suc d) (omega arith) in
     rw (joined-append (ifListed r) (rowLines t (suc d) left)) (omega (arith, length-append (joined (ifListed r)) (joined (rowLines t (suc d) left))))
 

@@ -1,16 +1,20 @@
 -- Every caller meets what the calls ask: an opening gives a tracker that came from an opening and calls, and a call keeps it.
 -- With them go three laws of conditions and tests.
 -- Assumes nothing.
+use mathlib.Core.Bool.{Bool, true, false, cond}
 use mathlib.Core.List.{List, [], _∷_, _++_}
 use mathlib.Core.Path.{_≡_, refl, ap, _∙_}
 use Prim.Native.Nat.{ℕ, _<_}
 use native.Mathlib.Omega.{arith}
-use borrow.Author.Tests.{le-ltb}
+use borrow.Author.Tests.{le-ltb, ltb-false}
+use lib.Dec.{ltb}
 use Rattle.rules.specs.declared.Tracker.{Tracker}
 use Rattle.rules.specs.declared.Answer.{Answer}
 use Rattle.rules.specs.declared.RowAnswer.{RowAnswer}
-use Rattle.rules.specs.Refusal.{openConditions, openOutcome, intervalConditions, intervalOutcome, rowConditions, rowOutcome}
-use Rattle.rules.specs.Tracker.{Opening, openOf, intervalOf, rowOf, rowAnswer, after, run}
+use Rattle.rules.specs.declared.Outcome.the-variants.{Accepted, Refused}
+use Rattle.rules.specs.Bounds.{RowBounds}
+use Rattle.rules.specs.Refusal.{isAccepted, openConditions, openOutcome, intervalConditions, intervalOutcome, rowConditions, rowOutcome}
+use Rattle.rules.specs.Tracker.{Opening, openOf, intervalOf, rowOf, noRow, rowAnswer, after, run}
 use Rattle.rules.proofs.Came as rules
 use Rattle.rules.proofs.Limits.{row-bounds}
 pub use Rattle.rules.proofs.Scan.{both-false}
@@ -43,12 +47,35 @@ pub row-shown : (t : Tracker) (d : ℕ) → d < 8 → rowAnswer t d .row ≡ row
 unfolding rowAnswer rowOutcome rowConditions
 row-shown t d l = rw (le-ltb 7 d (omega arith))
 
+-- and so is its size known, as is that of the zero row beside 17
+none-bounded : RowBounds noRow
+none-bounded = record {
+  n = omega arith;
+  direction = omega arith;
+  residue = omega arith;
+  previous = omega arith;
+  current = omega arith;
+  amount = omega arith;
+  next = omega arith;
+  net = omega arith;
+  clamp = omega arith;
+  unsigned = refl;
+}
+
+row-bounded : (t : Tracker) → Came t → (d : ℕ) → RowBounds (rowAnswer t d .row)
+unfolding rowAnswer rowOutcome rowConditions
+row-bounded t came d = go (ltb 7 d) refl
+  where
+    go : (high : Bool) → ltb 7 d ≡ high → RowBounds (cond (isAccepted (cond high (Refused 17) Accepted)) (rowOf t d) noRow)
+    go true e = none-bounded
+    go false e = row-bounds t came d (omega (arith, ltb-false 7 d e))
+
 pub row-promise : (t : Tracker) → Came t → (d : ℕ) {r : RowAnswer} → r ≡ rowAnswer t d → RowPromise t d r
 unfolding rowAnswer rowOutcome
 row-promise t came d e =
     rw e (record {
       is = refl;
       number = number-met (rowConditions d);
-      bounded = λ l. rw (row-shown t d l) (row-bounds t came d l);
+      bounded = row-bounded t came d;
       worked = λ o calls q l. row-shown t d l ∙ rules.claim t o calls q .each d l .is-worked;
     })

@@ -47,5 +47,5 @@ pub record IntervalPromise (t : Tracker) (b : List ℕ) (r : Answer) : Type 0 wh
 pub record RowPromise (t : Tracker) (d : ℕ) (r : RowAnswer) : Type 0 where
   pub is : r ≡ rowAnswer t d
   pub number : numberOf (r .outcome) ≡ numberMet (rowConditions d)
-  pub bounded : d < 8 → RowBounds (r .row)
+  pub bounded : RowBounds (r .row)
   pub worked : (o : Opening) (calls : List (List ℕ)) → t ≡ run o calls → d < 8 → r .row ≡ workedRow (firstOf o) d (history o d (accepted o calls))

@@ -18,7 +18,7 @@ row-requires : tie.Need-row-requires Inv-loop μ-loop
 row-requires c κs = c .before .before .pre
 
 print-row-requires : tie.Need-print-row-requires Inv-loop μ-loop
-print-row-requires c κs = c .row .ensures .bounded (c .before .loop-test .taken)
+print-row-requires c κs = c .row .ensures .bounded
 
 add-d : tie.Need-add-d Inv-loop μ-loop
 add-d c = search needs

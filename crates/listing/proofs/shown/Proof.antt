@@ -11,7 +11,7 @@ row-requires c κs = search needs
 returns : tie.Need-returns
 returns c =
     let k = c .before .row .ensures in
-    (ap (λ a. a .row) (k .is), rw (← k .is) (k .bounded (c .before .before .pre .1)))
+    (ap (λ a. a .row) (k .is), rw (← k .is) (k .bounded))
 
 pub shown-spec : {M : Type 1} → statement M
 shown-spec = tie.close (tie.spec row-requires returns)
