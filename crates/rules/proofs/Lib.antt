@@ -14,3 +14,4 @@ pub mod Replay
 pub mod Demand
 pub mod Came
 pub mod Limits
+pub mod Longer

@@ -37,6 +37,13 @@ unfoldable pub workedRow : ℕ → ℕ → List Event → Row
 workedRow first d [] = row first d (cents (pos 0)) (cents (pos 0)) false true fresh
 workedRow first d (e ∷ es) = row (e .n) d (e .residue) (e .next) (e .blocked) (e .flag) (stateAfter settings d (e ∷ es))
 
+-- The same from an opening and any list of calls: the awaited number, and the row of direction d.
+abbrev pub awaitedFrom : Opening → List (List ℕ) → ℕ
+awaitedFrom o calls = awaitedAfter o (accepted o calls)
+
+abbrev pub workedFrom : Opening → List (List ℕ) → ℕ → Row
+workedFrom o calls d = workedRow (firstOf o) d (history o d (accepted o calls))
+
 -- Of one direction: es is its history, a the awaited number, r the tracker's row.
 pub record DirectionClaim (first d : ℕ) (es : List Event) (a : ℕ) (r : Row) : Type 0 where
   -- (row) the tracker's row equals the one that document 01 works out from the opening and those calls

@@ -1,25 +1,28 @@
--- Every caller meets what the calls ask: an opening gives a tracker that came from an opening and calls, and a call keeps it.
--- With them go three laws of conditions and tests.
+-- Every caller meets what the calls ask: an opening gives a tracker that came from an opening and calls, and a call keeps it. With them go the
+-- laws that callers need: of conditions and tests, of one call more at the end of a list, and of the rows that the calls return.
 -- Assumes nothing.
 use mathlib.Core.Bool.{Bool, true, false, cond}
 use mathlib.Core.List.{List, [], _∷_, _++_}
-use mathlib.Core.Path.{_≡_, refl, ap, _∙_}
+use mathlib.Core.Path.{_≡_, refl, sym, ap, _∙_}
 use Prim.Native.Nat.{ℕ, _<_}
 use native.Mathlib.Omega.{arith}
 use borrow.Author.Tests.{le-ltb, ltb-false}
 use lib.Dec.{ltb}
 use Rattle.rules.specs.declared.Tracker.{Tracker}
+use Rattle.rules.specs.declared.Row.{Row}
 use Rattle.rules.specs.declared.Answer.{Answer}
 use Rattle.rules.specs.declared.RowAnswer.{RowAnswer}
 use Rattle.rules.specs.declared.Outcome.the-variants.{Accepted, Refused}
 use Rattle.rules.specs.Bounds.{RowBounds}
-use Rattle.rules.specs.Refusal.{isAccepted, openConditions, openOutcome, intervalConditions, intervalOutcome, rowConditions, rowOutcome}
-use Rattle.rules.specs.Tracker.{Opening, openOf, intervalOf, rowOf, noRow, rowAnswer, after, run}
+use Rattle.rules.specs.Refusal.{numberOf, isAccepted, judged, openConditions, openOutcome, intervalConditions, intervalOutcome, rowConditions, rowOutcome}
+use Rattle.rules.specs.Tracker.{Opening, firstOf, openOf, intervalOf, rowOf, noRow, rowAnswer, after, run}
+use Rattle.rules.specs.Claim.{accepted, history, awaitedFrom}
 use Rattle.rules.proofs.Came as rules
 use Rattle.rules.proofs.Limits.{row-bounds}
 pub use Rattle.rules.proofs.Scan.{both-false}
 pub use Rattle.rules.proofs.Accepted.{accepted-iff, number-met}
-use Rattle.tracker.specs.Promise.{Came, OpenPromise, IntervalPromise, RowPromise}
+pub use Rattle.rules.proofs.Longer.{refused-longer, accepted-longer, awaits-one-more, shows-awaited, worked-direction}
+use Rattle.tracker.specs.Promise.{Came, OpenPromise, NextCall, IntervalPromise, RowPromise}
 
 pub came-open : (o : Opening) → Came (openOf o .tracker)
 came-open = rules.came-open
@@ -30,17 +33,32 @@ came-interval = rules.came-after
 -- what the equations of the calls bring with them
 pub open-promise : (o : Opening) {r : Answer} → r ≡ openOf o → OpenPromise o r
 unfolding run openOf openOutcome
-open-promise o e = rw e (record { is = refl; number = number-met (openConditions (o .first) (o .shares)); came = came-open o; claim = rules.claim (openOf o .tracker) o [] refl })
-
-pub interval-promise : (t : Tracker) → Came t → (b : List ℕ) {r : Answer} → r ≡ intervalOf t b → IntervalPromise t b r
-unfolding intervalOf intervalOutcome
-interval-promise t came b e =
+open-promise o e =
     rw e (record {
       is = refl;
-      number = number-met (intervalConditions (t .awaited) b);
-      came = came-interval t came b;
-      claim = λ o calls q. rules.claim (after t b) o (calls ++ (b ∷ [])) (ap (λ (x : Tracker). after x b) q ∙ rules.run-on o calls b);
+      number = number-met (openConditions (o .first) (o .shares));
+      came = came-open o;
+      ran = refl;
+      claim = rules.claim (openOf o .tracker) o [] refl;
     })
+
+module _ (t : Tracker) (b : List ℕ) (o : Opening) (calls : List (List ℕ)) (q : t ≡ run o calls) where
+  run-longer : after t b ≡ run o (calls ++ (b ∷ []))
+  run-longer = ap (λ (x : Tracker). after x b) q ∙ rules.run-on o calls b
+
+  next-call : NextCall o calls b (intervalOf t b)
+  unfolding intervalOf intervalOutcome
+  next-call =
+      let outcome = ap (λ (n : ℕ). judged (intervalConditions n b)) (rules.claim t o calls q .awaits) in
+      record {
+        outcome = outcome;
+        number = ap numberOf outcome ∙ number-met (intervalConditions (awaitedFrom o calls) b);
+        ran = run-longer;
+        claim = rules.claim (after t b) o (calls ++ (b ∷ [])) run-longer;
+      }
+
+pub interval-promise : (t : Tracker) → Came t → (b : List ℕ) {r : Answer} → r ≡ intervalOf t b → IntervalPromise t b r
+interval-promise t came b e = rw e (record { is = refl; came = came-interval t came b; next = next-call t b })
 
 -- the row of a direction that is there is shown
 pub row-shown : (t : Tracker) (d : ℕ) → d < 8 → rowAnswer t d .row ≡ rowOf t d
@@ -77,5 +95,24 @@ row-promise t came d e =
       is = refl;
       number = number-met (rowConditions d);
       bounded = row-bounded t came d;
-      worked = λ o calls q l. row-shown t d l ∙ rules.claim t o calls q .each d l .is-worked;
+      claim = λ o calls q l. rw (row-shown t d l) (rules.claim t o calls q .each d l);
     })
+
+-- A row has the direction asked for;
+pub row-direction : {t : Tracker} {d : ℕ} {r : RowAnswer} → Came t → RowPromise t d r → d < 8 → r .row .direction ≡ d
+row-direction {d = d} came row l =
+    let o = came .opening in
+    let calls = came .calls in
+    ap (λ (x : Row). x .direction) (row .claim o calls (came .is) l .is-worked) ∙ worked-direction (firstOf o) d (history o d (accepted o calls))
+
+-- after an accepted call it has the n that was awaited. (The next awaited number is one more: awaits-one-more.)
+pub row-number : {t : Tracker} {b : List ℕ} {a : Answer} {d : ℕ} {r : RowAnswer} (o : Opening) (calls : List (List ℕ))
+    → t ≡ run o calls
+    → IntervalPromise t b a
+    → a .outcome ≡ Accepted
+    → RowPromise (a .tracker) d r
+    → d < 8
+    → r .row .n ≡ awaitedFrom o calls
+row-number {b = b} {d = d} o calls q call ok row l =
+    let next = call .next o calls q in
+    ap (λ (x : Row). x .n) (row .claim o (calls ++ (b ∷ [])) (next .ran) l .is-worked) ∙ shows-awaited o calls b (sym (next .outcome) ∙ ok) d

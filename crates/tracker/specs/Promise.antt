@@ -1,10 +1,12 @@
--- What crates above the tracker may cite, and nothing else below it: the types of its calls, what the three calls return for every
--- input, and demand 3 as they promise it.
+-- What crates above the tracker may cite, and nothing else of it or below it (with the lemmas of proofs/Promise): the words of the three
+-- calls and of demand 3, and what the calls promise by them.
 use mathlib.Core.List.{List, [], _∷_, _++_}
 use mathlib.Core.Path.{_≡_}
 use Prim.Native.Nat.{ℕ, _<_}
-use Rattle.rules.specs.Tracker.{firstOf, run}
-use Rattle.rules.specs.Claim.{Claim, accepted, history, workedRow}
+-- amounts and flows
+pub use Rattle.signed.specs.Range.{minus, negative}
+pub use Rattle.units.specs.Units.{cents, hundredths}
+-- what the calls take and answer
 pub use Rattle.rules.specs.declared.Tracker.{Tracker}
 pub use Rattle.rules.specs.declared.Row.{Row}
 pub use Rattle.rules.specs.declared.Period.{Period}
@@ -17,35 +19,57 @@ pub use Rattle.rules.specs.declared.RowAnswer.{RowAnswer}
 -- the number of a record and how bytes make it, and how conditions in their order make an outcome
 unfoldable pub use Rattle.rules.specs.Record.{u32At}
 pub use Rattle.rules.specs.Record.{number}
-pub use Rattle.rules.specs.Refusal.{numberOf, isAccepted, Condition, _⇒_, judged, numberMet, rowConditions}
-unfoldable pub use Rattle.rules.specs.Refusal.{openConditions, intervalConditions}
--- the calls, and that a tracker came from an opening and calls
-pub use Rattle.rules.specs.Tracker.{Opening, openOf, intervalOf, rowAnswer}
+pub use Rattle.rules.specs.Refusal.{numberOf, isAccepted, Condition, _⇒_, judged, numberMet}
+unfoldable pub use Rattle.rules.specs.Refusal.{openConditions, intervalConditions, rowConditions}
+-- the calls, a list of them from an opening, and that a tracker came from such a list
+pub use Rattle.rules.specs.Tracker.{Opening, firstOf, sharesOf, openOf, intervalOf, rowAnswer}
+unfoldable pub use Rattle.rules.specs.Tracker.{run}
 pub use Rattle.rules.specs.Claim.{Came}
+-- what follows from an opening and records alone: the accepted ones, the awaited number, the history of a direction, its row
+pub use Rattle.rules.specs.declared.Event.{Event}
+unfoldable pub use Rattle.rules.specs.Record.{eventOf}
+unfoldable pub use Rattle.rules.specs.Claim.{hear, accepted, history, workedRow}
+pub use Rattle.rules.specs.Claim.{awaitedAfter, awaitedFrom, workedFrom}
+-- the words of demand 3 about a history, and the claim with its parts
+pub use Rattle.rules.specs.Interval.{Settings, settings}
+unfoldable pub use Rattle.rules.specs.History.{clearing, sinceClearing, sumNegative}
+pub use Rattle.rules.specs.History.{sumSince, estimate, underReview, gotThere, GotThereWithin, liesIn}
+pub use Rattle.rules.specs.Claim.{DirectionClaim, ClaimOf, Claim}
+-- how large the numbers of a row get
 pub use Rattle.rules.specs.Bounds.{highestResidue, highestNext, highestSum, RowBounds}
 
 abbrev pub opening : ℕ → List ℕ → Opening
 opening first shares = record { first = first; shares = shares }
 
--- An opening returns what document 01 says, and the claim of the empty list holds of its tracker.
+-- An opening returns what document 01 says: its number is that of the first condition met, or none. Its tracker is the run of the empty
+-- list, and the claim of that list holds of it.
 pub record OpenPromise (o : Opening) (r : Answer) : Type 0 where
   pub is : r ≡ openOf o
-  -- in document 01's numbers: that of the first condition met, or none
   pub number : numberOf (r .outcome) ≡ numberMet (openConditions (o .first) (o .shares))
   pub came : Came (r .tracker)
+  pub ran : r .tracker ≡ run o []
   pub claim : Claim o [] (r .tracker)
 
--- An interval call on a tracker t returns what document 01 says, and for every opening and list that led to t the claim of that list
--- with this call at its end holds of the tracker returned.
+-- The record b after a list of calls from an opening: its outcome is that of numbers 1 to 8 at the number which they await, the tracker
+-- returned is the run of that list with this call at its end, and the claim of the longer list holds of it.
+pub record NextCall (o : Opening) (calls : List (List ℕ)) (b : List ℕ) (r : Answer) : Type 0 where
+  pub outcome : r .outcome ≡ judged (intervalConditions (awaitedFrom o calls) b)
+  pub number : numberOf (r .outcome) ≡ numberMet (intervalConditions (awaitedFrom o calls) b)
+  pub ran : r .tracker ≡ run o (calls ++ (b ∷ []))
+  pub claim : Claim o (calls ++ (b ∷ [])) (r .tracker)
+
+-- An interval call on a tracker t returns what document 01 says, and it is the next call of every opening and list that led to t.
 pub record IntervalPromise (t : Tracker) (b : List ℕ) (r : Answer) : Type 0 where
   pub is : r ≡ intervalOf t b
-  pub number : numberOf (r .outcome) ≡ numberMet (intervalConditions (t .awaited) b)
   pub came : Came (r .tracker)
-  pub claim : (o : Opening) (calls : List (List ℕ)) → t ≡ run o calls → Claim o (calls ++ (b ∷ [])) (r .tracker)
+  pub next : (o : Opening) (calls : List (List ℕ)) → t ≡ run o calls → NextCall o calls b r
 
--- A row call returns what document 01 says, and the row is the one worked out of every opening and list that led to t.
+-- A row call returns what document 01 says, and demand 3 holds, in all its parts, of the row returned, for every opening and list that led to t.
 pub record RowPromise (t : Tracker) (d : ℕ) (r : RowAnswer) : Type 0 where
   pub is : r ≡ rowAnswer t d
   pub number : numberOf (r .outcome) ≡ numberMet (rowConditions d)
   pub bounded : RowBounds (r .row)
-  pub worked : (o : Opening) (calls : List (List ℕ)) → t ≡ run o calls → d < 8 → r .row ≡ workedRow (firstOf o) d (history o d (accepted o calls))
+  pub claim : (o : Opening) (calls : List (List ℕ))
+      → t ≡ run o calls
+      → d < 8
+      → DirectionClaim (firstOf o) d (history o d (accepted o calls)) (awaitedFrom o calls) (r .row)
