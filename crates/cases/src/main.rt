@@ -156,9 +156,18 @@ fn print_all_rows(bytes: &[u8]) {
     run(a.tracker, journal::records(bytes));
 }
 
+// How many bytes of the input clampday's buffer holds.
+fn held(length: usize) -> usize
+    ensures { λ r. ⌜ r ≤ length ⌝ }
+{
+    if 65536 < length { 65536 } else { length }
+}
+
+// As clampday lists it: what its buffer holds of the input, and whether more follows.
 fn print_listing(bytes: &[u8]) {
     let mut out = [0u8; 262144];
-    let k = listing::listing(bytes, &mut out);
+    let n = held(bytes.len());
+    let k = listing::listing(&bytes[0..n], n < bytes.len(), &mut out);
     io::write_all(STDOUT_FILENO, &out[..k]);
 }
 

@@ -5,11 +5,9 @@ use mathlib.Core.Bool.{true, false}
 use Prim.Native.Nat.{ℕ}
 use lib.IntN.{ℤ, pos}
 use lib.ListN.{length}
-use Rattle.signed.specs.Range.{minus}
-use Rattle.units.specs.Units.{cents, hundredths}
 use Rattle.text.specs.Ascii.{ascii}
 use Rattle.text.specs.Text.{countOf, cellOf, signedOf, decOf, decimal}
-use Rattle.tracker.specs.Promise.{Row, None}
+use Rattle.tracker.specs.Promise.{minus, cents, hundredths, Row, None}
 use Rattle.listing.specs.Line.{joined, nameOf, amountsOf, lineOf, listedOf}
 
 -- a row of direction 2 outside a period, of which the line shows n, amount and current, both z, and next

@@ -3,18 +3,21 @@
 use mathlib.Core.Path.{_≡_, refl, ap, sym, _∙_}
 use mathlib.Core.Bool.{true, false}
 use mathlib.Core.List.{List, [], _∷_, _++_, append-assoc, append-nil}
+use mathlib.Core.Option.{Option}
 use Prim.Native.Nat.{ℕ, suc, _+_, _-_, _/_, _<_, _≤_}
 use native.Mathlib.Numerals.{add-one}
 use native.Mathlib.Omega.{arith}
-use lib.ListN.{length, take, drop, replicate}
+use lib.ListN.{length, take, drop}
 use lib.Seq.{drop-drop}
 use borrow.Author.Tests.{eq-eqb, ne-eqb}
 use Rattle.journal.specs.declared.Found.{Found}
 use Rattle.journal.specs.declared.Found.the-variants.{Journal, Refused as NotRead}
 use Rattle.journal.specs.Journal.{countOf, readOf, recordsOf}
-use Rattle.tracker.specs.Promise.{Tracker, Row, Answer, Accepted, Refused, openOf, intervalOf, rowAnswer, opening}
+use Rattle.tracker.specs.Promise.{Tracker, Row, Answer, Accepted, Refused, OpenPromise, numberOf, intervalOf}
 use Rattle.listing.specs.Line.{joined, lineOf, listedOf}
-use Rattle.listing.specs.Listing.{ifListed, rowLines, eightRows, runLines, callLines, refusedLine, recordLines, bodyLines}
+use Rattle.listing.specs.Listing.{ifListed, rowLines, eightRows, callLines, refusedLine, openedAt, recordLines, bodyLines}
+use Rattle.listing.specs.Shown.{shownBy, shownLines}
+use Rattle.listing.proofs.Followed.{worked-run}
 
 pub joined-append : (a b : List (List ℕ)) → joined (a ++ b) ≡ joined a ++ joined b
 unfolding joined
@@ -33,43 +36,43 @@ unfolding joined
 no-line r e = rw e
 
 -- the lines of the rows from direction d on
-abbrev pub rowsFrom : Tracker → ℕ → List ℕ
-rowsFrom t d = joined (rowLines t d (8 - d))
+abbrev pub rowsFrom : (ℕ → Row) → ℕ → List ℕ
+rowsFrom rows d = joined (rowLines rows d (8 - d))
 
-pub row-step : (t : Tracker) (d : ℕ) → d < 8 → rowsFrom t d ≡ joined (ifListed (rowAnswer t d .row)) ++ rowsFrom t (d + 1)
+pub row-step : (rows : ℕ → Row) (d : ℕ) → d < 8 → rowsFrom rows d ≡ joined (ifListed (rows d)) ++ rowsFrom rows (d + 1)
 unfolding rowLines
-row-step t d h =
+row-step rows d h =
     let e : 8 - d ≡ suc (8 - (d + 1)) = omega arith in
-    let own = ifListed (rowAnswer t d .row) in
-    rw e (joined-append own (rowLines t (suc d) (8 - (d + 1))) ∙ ap (λ (n : ℕ). joined own ++ joined (rowLines t n (8 - (d + 1)))) (sym (add-one d)))
+    let own = ifListed (rows d) in
+    rw e (joined-append own (rowLines rows (suc d) (8 - (d + 1))) ∙ ap (λ (n : ℕ). joined own ++ joined (rowLines rows n (8 - (d + 1)))) (sym (add-one d)))
 
-pub rows-done : (t : Tracker) (d : ℕ) → 8 ≤ d → rowsFrom t d ≡ []
+pub rows-done : (rows : ℕ → Row) (d : ℕ) → 8 ≤ d → rowsFrom rows d ≡ []
 unfolding rowLines joined
-rows-done t d h = let e : 8 - d ≡ 0 = omega arith in rw e
+rows-done rows d h = let e : 8 - d ≡ 0 = omega arith in rw e
 
 -- the lines of the records from byte i on
 abbrev pub rest : List ℕ → ℕ → Tracker → List ℕ
-rest r i u = joined (runLines ((length r - i) / 168) u (drop i r))
+rest r i u = joined (shownLines ((length r - i) / 168) u (drop i r))
 
-pub rest-all : (r : List ℕ) (u : Tracker) → joined (runLines (countOf r) u r) ≡ rest r 0 u
+pub rest-all : (r : List ℕ) (u : Tracker) → joined (shownLines (countOf r) u r) ≡ rest r 0 u
 rest-all r u = let e : length r - 0 ≡ length r = omega arith in rw e
 
 pub rest-none : (r : List ℕ) (i : ℕ) (u : Tracker) → length r ≤ i → rest r i u ≡ []
-unfolding runLines joined
+unfolding shownLines joined
 rest-none r i u h = let e : (length r - i) / 168 ≡ 0 = omega arith in rw e
 
 -- one record's turn: the call's answer, on the record as the code takes it out
 module _ (r : List ℕ) (i : ℕ) (u : Tracker) (a : Answer) (h : i + 168 ≤ length r) (is : a ≡ intervalOf u (take (i + 168 - i) (drop i r))) where
-  turn : rest r i u ≡ joined (callLines (a .outcome) (a .tracker) (runLines ((length r - (i + 168)) / 168) (a .tracker) (drop (i + 168) r)))
-  unfolding runLines
+  turn : rest r i u ≡ joined (callLines (numberOf (a .outcome)) (eightRows (shownBy (a .tracker))) (shownLines ((length r - (i + 168)) / 168) (a .tracker) (drop (i + 168) r)))
+  unfolding shownLines
   turn =
       let n : (length r - i) / 168 ≡ suc ((length r - (i + 168)) / 168) = omega arith in
       let m : i + 168 - i ≡ 168 = omega arith in
       let e : intervalOf u (take 168 (drop i r)) ≡ a = sym (is ∙ ap (λ (k : ℕ). intervalOf u (take k (drop i r))) m) in
       rw (n, e, drop-drop 168 i r)
 
-  pub go-on : a .outcome ≡ Accepted → rest r i u ≡ joined (eightRows (a .tracker)) ++ rest r (i + 168) (a .tracker)
-  go-on e = turn ∙ rw e (joined-append (eightRows (a .tracker)) (runLines ((length r - (i + 168)) / 168) (a .tracker) (drop (i + 168) r)))
+  pub go-on : a .outcome ≡ Accepted → rest r i u ≡ joined (eightRows (shownBy (a .tracker))) ++ rest r (i + 168) (a .tracker)
+  go-on e = turn ∙ rw e (joined-append (eightRows (shownBy (a .tracker))) (shownLines ((length r - (i + 168)) / 168) (a .tracker) (drop (i + 168) r)))
 
   pub go-off : (k : ℕ) → a .outcome ≡ Refused k → rest r i u ≡ refusedLine k
   go-off k e = turn ∙ rw e (joined-one (refusedLine k))
@@ -79,14 +82,16 @@ pub no-records : (first : ℕ) (r : List ℕ) → length r ≡ 0 → joined (rec
 unfolding recordLines joined
 no-records first r l = rw (eq-eqb _ _ l)
 
-module _ (first : ℕ) (r : List ℕ) (a : Answer) (l : length r ≡ 0 → ⊥) (is : a ≡ openOf (opening first (replicate 6 500))) where
-  pub opened : a .outcome ≡ Accepted → joined (recordLines first r) ≡ joined (runLines (countOf r) (a .tracker) r)
+module _ (first : ℕ) (r : List ℕ) (a : Answer) (l : length r ≡ 0 → ⊥) (p : OpenPromise (openedAt first) a) where
+  by-number : {m : Option ℕ} → numberOf (a .outcome) ≡ m → joined (recordLines first r) ≡ joined (callLines m [] (shownLines (countOf r) (a .tracker) r))
   unfolding recordLines
-  opened e = rw (← is, ne-eqb _ _ l, e)
+  by-number e = rw (ne-eqb _ _ l, sym (p .number) ∙ e, ← worked-run (openedAt first) (countOf r) [] (a .tracker) (p .ran) r)
+
+  pub opened : a .outcome ≡ Accepted → joined (recordLines first r) ≡ joined (shownLines (countOf r) (a .tracker) r)
+  opened e = by-number (ap numberOf e)
 
   pub unopened : (k : ℕ) → a .outcome ≡ Refused k → joined (recordLines first r) ≡ refusedLine k
-  unfolding recordLines
-  unopened k e = rw (← is, ne-eqb _ _ l, e) (joined-one (refusedLine k))
+  unopened k e = by-number (ap numberOf e) ∙ joined-one (refusedLine k)
 
 -- what follows the header, by what a read finds
 module _ (s : List ℕ) (f : Found) (is : f ≡ readOf s) where

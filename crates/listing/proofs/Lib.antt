@@ -2,6 +2,7 @@
 pub mod Bound
 mod Cells
 pub mod Figures
+mod Followed
 mod Joins
 mod Numbers
 pub mod Total

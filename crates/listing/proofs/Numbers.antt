@@ -6,8 +6,8 @@ use mathlib.Core.List.{List, [], _∷_}
 use mathlib.Core.Option.{some}
 use Prim.Native.Nat.{ℕ, _≤_}
 use native.Mathlib.Omega.{arith}
-use Rattle.tracker.specs.Promise.{Tracker, Outcome, Accepted, Refused, Opening, Condition, numberOf, numberMet, openOf, intervalOf, openConditions, intervalConditions, Came}
-use Rattle.tracker.proofs.Promise.{number-met, open-promise, interval-promise}
+use Rattle.tracker.specs.Promise.{Outcome, Accepted, Refused, Condition, numberOf, numberMet, openConditions, intervalConditions}
+use Rattle.tracker.proofs.Promise.{number-met}
 use Rattle.journal.specs.declared.Found.the-variants.{Refused as NotRead}
 use Rattle.journal.specs.Journal.{foundBy, readOf, readConditions, readOutcome}
 
@@ -24,14 +24,13 @@ met-most (c ∷ cs) m k e = go (c .met) (met-most cs (m .1) k) e
     go true rest e = let same : c .number ≡ k = cc in omega (arith, m .0)
     go false rest e = rest e
 
-pub open-number : (o : Opening) (k : ℕ) → openOf o .outcome ≡ Refused k → k ≤ 17
+pub open-number : (first : ℕ) (shares : List ℕ) (k : ℕ) → numberMet (openConditions first shares) ≡ some k → k ≤ 17
 unfolding openConditions
-open-number o k e = met-most (openConditions (o .first) (o .shares)) (search arith) k (sym (open-promise o refl .number) ∙ ap numberOf e)
+open-number first shares = met-most (openConditions first shares) (search arith)
 
-pub interval-number : (t : Tracker) → Came t → (b : List ℕ) (k : ℕ) → intervalOf t b .outcome ≡ Refused k → k ≤ 17
+pub interval-number : (awaited : ℕ) (b : List ℕ) (k : ℕ) → numberMet (intervalConditions awaited b) ≡ some k → k ≤ 17
 unfolding intervalConditions
-interval-number t came b k e =
-    met-most (intervalConditions (t .awaited) b) (search arith) k (sym (interval-promise t came b refl .number) ∙ ap numberOf e)
+interval-number awaited b = met-most (intervalConditions awaited b) (search arith)
 
 read-by : (s : List ℕ) (o : Outcome) → readOutcome s ≡ o → (k : ℕ) → foundBy o s ≡ NotRead k → k ≤ 17
 unfolding readOutcome readConditions

@@ -4,10 +4,9 @@ use mathlib.Core.List.{List, [], _∷_, _++_}
 use Prim.Native.Nat.{ℕ}
 use Prim.Native.String.{String}
 use lib.ListN.{getD}
-use Rattle.signed.specs.Range.{negative}
 use Rattle.text.specs.Ascii.{ascii}
 use Rattle.text.specs.Text.{countOf, cellOf}
-use Rattle.tracker.specs.Promise.{Row}
+use Rattle.tracker.specs.Promise.{negative, Row}
 
 -- Direction 2c is From_To of corridor c, 2c+1 is To_From.
 abbrev pub names : List String

@@ -1,13 +1,14 @@
--- Document 01, `clampday`: the listing of a journal, line by line.
--- Two types have a variant Refused: that of an outcome is Refused here, that of a read NotRead.
-use mathlib.Core.Bool.{cond}
+-- Document 01, `clampday`: the listing of its input, line by line, from the opening and the records alone. Nothing here reads a tracker.
+-- A read's variant Refused is NotRead here.
+use mathlib.Core.Bool.{Bool, cond}
 use mathlib.Core.List.{List, [], _∷_, _++_}
+use mathlib.Core.Option.{Option, none, some}
 use Prim.Native.Nat.{ℕ, zero, suc}
 use lib.Dec.{eqb}
 use lib.ListN.{length, take, drop, replicate}
 use Rattle.text.specs.Ascii.{ascii}
 use Rattle.text.specs.Text.{countOf}
-use Rattle.tracker.specs.Promise.{Tracker, Row, Outcome, Accepted, Refused, openOf, intervalOf, rowAnswer, opening}
+use Rattle.tracker.specs.Promise.{Row, Opening, opening, numberMet, openConditions, intervalConditions, awaitedFrom, workedFrom}
 use Rattle.journal.specs.declared.Found.{Found}
 use Rattle.journal.specs.declared.Found.the-variants.{Journal, Refused as NotRead}
 use Rattle.journal.specs.Journal.{readOf, recordsOf}
@@ -25,40 +26,44 @@ refusedLine k = ascii "refused," ++ countOf k newline
 abbrev pub endedBy : ℕ → List (List ℕ)
 endedBy k = refusedLine k ∷ []
 
+-- What a call gives by its number: its own lines and those that follow, or the refusal.
+abbrev pub callLines : Option ℕ → List (List ℕ) → List (List ℕ) → List (List ℕ)
+callLines none own following = own ++ following
+callLines (some k) own following = endedBy k
+
 -- A row's line, where the row is printed.
 abbrev pub ifListed : Row → List (List ℕ)
 ifListed r = cond (listedOf r) (lineOf r ∷ []) []
 
--- By interval, then direction: the rows of as many directions as are left, from d on.
-unfoldable pub rowLines : Tracker → ℕ → ℕ → List (List ℕ)
-rowLines t d zero = []
-rowLines t d (suc left) = ifListed (rowAnswer t d .row) ++ rowLines t (suc d) left
+-- By interval, then direction: of the rows by direction those of as many as are left, from d on.
+unfoldable pub rowLines : (ℕ → Row) → ℕ → ℕ → List (List ℕ)
+rowLines rows d zero = []
+rowLines rows d (suc left) = ifListed (rows d) ++ rowLines rows (suc d) left
 
-abbrev pub eightRows : Tracker → List (List ℕ)
-eightRows t = rowLines t 0 8
+abbrev pub eightRows : (ℕ → Row) → List (List ℕ)
+eightRows rows = rowLines rows 0 8
 
--- After an interval call: the rows of the tracker that it left and what follows, or its number.
-abbrev pub callLines : Outcome → Tracker → List (List ℕ) → List (List ℕ)
-callLines Accepted t rest = eightRows t ++ rest
-callLines (Refused k) t rest = endedBy k
+-- So many records in turn, after those that have passed: of each the rows worked out from the opening and the records up to it, up to the
+-- first that is refused, at the number which those before it await.
+unfoldable pub runLines : Opening → ℕ → List (List ℕ) → List ℕ → List (List ℕ)
+runLines o zero passed r = []
+runLines o (suc k) passed r =
+    let b = take 168 r in
+    let upto = passed ++ (b ∷ []) in
+    callLines (numberMet (intervalConditions (awaitedFrom o passed) b)) (eightRows (workedFrom o upto)) (runLines o k upto (drop 168 r))
 
--- So many records, each in its turn on the tracker that the call before left.
-unfoldable pub runLines : ℕ → Tracker → List ℕ → List (List ℕ)
-runLines zero t r = []
-runLines (suc k) t r =
-    let a = intervalOf t (take 168 r) in
-    callLines (a .outcome) (a .tracker) (runLines k (a .tracker) (drop 168 r))
+-- It opens at the journal's first n with all shares 500.
+abbrev pub openedAt : ℕ → Opening
+openedAt first = opening first (replicate 6 500)
 
--- After the opening: the records' lines, or its number.
-abbrev pub openedLines : Outcome → Tracker → List ℕ → List (List ℕ)
-openedLines Accepted t r = runLines (J.countOf r) t r
-openedLines (Refused k) t r = endedBy k
+abbrev pub openingNumber : Opening → Option ℕ
+openingNumber o = numberMet (openConditions (o .first) (o .shares))
 
--- It opens at the journal's first n with all shares 500. An empty journal prints the header alone: it is not opened.
+-- An empty journal prints the header alone: it is not opened.
 unfoldable pub recordLines : ℕ → List ℕ → List (List ℕ)
 recordLines first r =
-    let a = openOf (opening first (replicate 6 500)) in
-    cond (eqb (length r) 0) [] (openedLines (a .outcome) (a .tracker) r)
+    let o = openedAt first in
+    cond (eqb (length r) 0) [] (callLines (openingNumber o) [] (runLines o (J.countOf r) [] r))
 
 -- After the read: what the records give, or its number.
 abbrev pub readLines : Found → List ℕ → List (List ℕ)
@@ -68,15 +73,13 @@ readLines (NotRead k) r = endedBy k
 unfoldable pub bodyLines : List ℕ → List (List ℕ)
 bodyLines journal = readLines (readOf journal) (recordsOf journal)
 
--- All lines of a journal's listing, and of that of input which is refused before it is read.
-unfoldable pub linesOf : List ℕ → List (List ℕ)
-linesOf journal = header ∷ bodyLines journal
+-- The program's buffer holds 65,536 bytes; input beyond it is 11, whatever the buffer holds.
+unfoldable pub inputLines : List ℕ → Bool → List (List ℕ)
+inputLines input more = cond more (endedBy 11) (bodyLines input)
 
-unfoldable pub refusedLines : ℕ → List (List ℕ)
-refusedLines k = header ∷ endedBy k
+-- The whole listing of input: all lines, end to end.
+unfoldable pub linesOf : List ℕ → Bool → List (List ℕ)
+linesOf input more = header ∷ inputLines input more
 
-abbrev pub listingOf : List ℕ → List ℕ
-listingOf journal = joined (linesOf journal)
-
-abbrev pub refusedListing : ℕ → List ℕ
-refusedListing k = joined (refusedLines k)
+abbrev pub listingOf : List ℕ → Bool → List ℕ
+listingOf input more = joined (linesOf input more)

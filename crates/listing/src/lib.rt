@@ -9,12 +9,12 @@ ghost use Prim.Native.Nat.{ℕ, _+_, _%_, _<_, _≤_};
 ghost use lib.ListN.{length};
 ghost use Rattle.io.specs.Counts.{Counts};
 ghost use Rattle.text.specs.Text.{countOf, pasted, over};
-ghost use Rattle.tracker.specs.Promise.{Came, RowBounds, rowAnswer};
+ghost use Rattle.tracker.specs.Promise.{Came, RowBounds};
 ghost use Rattle.journal.specs.Journal as J;
 ghost use Rattle.listing.specs.Line.{comma, mark, nameOf, joined, amountsOf, lineOf, listedOf};
 ghost use Rattle.listing.specs.Table.{keptNames};
-ghost use Rattle.listing.specs.Shown.{shownRows};
-ghost use Rattle.listing.specs.Listing.{header, refusedLine, ifListed, eightRows, runLines, recordLines, bodyLines, listingOf, refusedListing};
+ghost use Rattle.listing.specs.Shown.{shownBy, shownRows, shownLines};
+ghost use Rattle.listing.specs.Listing.{header, refusedLine, ifListed, eightRows, recordLines, bodyLines, inputLines, listingOf};
 
 // Of the names, ten bytes apart, direction d's with its comma: the last four are a byte shorter than that.
 fn name_among(names: &[u8], d: usize, out: &mut [u8], at: usize) -> usize
@@ -114,8 +114,8 @@ fn row_line(row: Row, out: &mut [u8], at: usize) -> usize
 // What a direction shows.
 fn shown(t: Tracker, d: usize) -> Row
     requires { ⌜ Came t × (d < 8) ⌝ }
-    ensures { λ r. ⌜ r ≡ rowAnswer t d .row ⌝ }
-    ensures { λ r. ⌜ RowBounds (rowAnswer t d .row) ⌝ }
+    ensures { λ r. ⌜ r ≡ shownBy t d ⌝ }
+    ensures { λ r. ⌜ RowBounds (shownBy t d) ⌝ }
 {
     let a = tracker::row(t, d);
     a.row
@@ -125,7 +125,7 @@ fn shown(t: Tracker, d: usize) -> Row
 fn all_shown(t: Tracker) -> [Row; 8]
     requires { ⌜ Came t ⌝ }
     ensures { λ r. ⌜ r ≡ shownRows t ⌝ }
-    ensures { λ r. ⌜ ((d : ℕ) → d < 8 → RowBounds (rowAnswer t d .row)) ⌝ }
+    ensures { λ r. ⌜ ((d : ℕ) → d < 8 → RowBounds (shownBy t d)) ⌝ }
 {
     [
         shown(t, 0),
@@ -141,9 +141,9 @@ fn all_shown(t: Tracker) -> [Row; 8]
 
 // The printed rows of a tracker.
 fn rows(t: Tracker, out: &mut [u8], at: usize) -> usize
-    requires { ⌜ Came t × (at + length (joined (eightRows t)) ≤ length (now out)) ⌝ }
-    ensures { λ r. ⌜ r ≡ at + length (joined (eightRows t)) ⌝ }
-    ensures { λ r. ⌜ now (out .exit) ≡ pasted at (joined (eightRows t)) (now (out .entry)) ⌝ }
+    requires { ⌜ Came t × (at + length (joined (eightRows (shownBy t))) ≤ length (now out)) ⌝ }
+    ensures { λ r. ⌜ r ≡ at + length (joined (eightRows (shownBy t))) ⌝ }
+    ensures { λ r. ⌜ now (out .exit) ≡ pasted at (joined (eightRows (shownBy t))) (now (out .entry)) ⌝ }
 {
     let all = all_shown(t);
     let mut e = at;
@@ -168,9 +168,9 @@ fn refused(number: u8, out: &mut [u8], at: usize) -> usize
 
 // The lines of records end to end, each in its turn; those of the records before a refusal stay.
 fn run(t: Tracker, records: &[u8], out: &mut [u8], at: usize) -> usize
-    requires { ⌜ Came t × ((length (now records) % 168 ≡ 0) × (at + length (joined (runLines (J.countOf (now records)) t (now records))) ≤ length (now out))) ⌝ }
-    ensures { λ r. ⌜ r ≡ at + length (joined (runLines (J.countOf (now (records .entry))) t (now (records .entry)))) ⌝ }
-    ensures { λ r. ⌜ now (out .exit) ≡ pasted at (joined (runLines (J.countOf (now (records .entry))) t (now (records .entry)))) (now (out .entry)) ⌝ }
+    requires { ⌜ Came t × ((length (now records) % 168 ≡ 0) × (at + length (joined (shownLines (J.countOf (now records)) t (now records))) ≤ length (now out))) ⌝ }
+    ensures { λ r. ⌜ r ≡ at + length (joined (shownLines (J.countOf (now (records .entry))) t (now (records .entry)))) ⌝ }
+    ensures { λ r. ⌜ now (out .exit) ≡ pasted at (joined (shownLines (J.countOf (now (records .entry))) t (now (records .entry)))) (now (out .entry)) ⌝ }
 {
     let mut u = t;
     let mut e = at;
@@ -209,7 +209,7 @@ fn opened(first: u32, records: &[u8], out: &mut [u8], at: usize) -> usize
     }
 }
 
-// What follows the header.
+// What a journal gives.
 fn body(journal: &[u8], out: &mut [u8], at: usize) -> usize
     requires { ⌜ at + length (joined (bodyLines (now journal))) ≤ length (now out) ⌝ }
     ensures { λ r. ⌜ r ≡ at + length (joined (bodyLines (now (journal .entry)))) ⌝ }
@@ -220,6 +220,18 @@ fn body(journal: &[u8], out: &mut [u8], at: usize) -> usize
         Found::Journal(_, first, _) => opened(first, journal::records(journal), out, at),
         Found::Refused(number) => refused(number, out, at),
     }
+}
+
+// What follows the header: with input beyond the buffer, nothing that the buffer holds counts.
+fn input_lines(input: &[u8], more: bool, out: &mut [u8], at: usize) -> usize
+    requires { ⌜ at + length (joined (inputLines (now input) more)) ≤ length (now out) ⌝ }
+    ensures { λ r. ⌜ r ≡ at + length (joined (inputLines (now (input .entry)) more)) ⌝ }
+    ensures { λ r. ⌜ now (out .exit) ≡ pasted at (joined (inputLines (now (input .entry)) more)) (now (out .entry)) ⌝ }
+{
+    if more {
+        return refused(11, out, at);
+    }
+    body(input, out, at)
 }
 
 fn heading(out: &mut [u8]) -> usize
@@ -234,24 +246,14 @@ fn heading(out: &mut [u8]) -> usize
     )
 }
 
-// The whole listing of a journal, at the start of a buffer that has room for the longest.
-pub fn listing(journal: &[u8], out: &mut [u8]) -> usize
+// The whole listing of a program's input: what its buffer holds, and whether more follows. It stands at the start of a buffer that has
+// room for the longest.
+pub fn listing(input: &[u8], more: bool, out: &mut [u8]) -> usize
     requires { ⌜ 218942 ≤ length (now out) ⌝ }
     ensures { λ r. ⌜ Counts r (now (out .exit)) ⌝ }
-    ensures { λ r. ⌜ r ≡ length (listingOf (now (journal .entry))) ⌝ }
-    ensures { λ r. ⌜ now (out .exit) ≡ over (listingOf (now (journal .entry))) (now (out .entry)) ⌝ }
+    ensures { λ r. ⌜ r ≡ length (listingOf (now (input .entry)) more) ⌝ }
+    ensures { λ r. ⌜ now (out .exit) ≡ over (listingOf (now (input .entry)) more) (now (out .entry)) ⌝ }
 {
     let e = heading(out);
-    body(journal, out, e)
-}
-
-// The listing of input that is refused before it is read as a journal.
-pub fn refused_listing(number: u8, out: &mut [u8]) -> usize
-    requires { ⌜ 74 ≤ length (now out) ⌝ }
-    ensures { λ r. ⌜ Counts r (now (out .exit)) ⌝ }
-    ensures { λ r. ⌜ r ≡ length (refusedListing number) ⌝ }
-    ensures { λ r. ⌜ now (out .exit) ≡ over (refusedListing number) (now (out .entry)) ⌝ }
-{
-    let e = heading(out);
-    refused(number, out, e)
+    input_lines(input, more, out, e)
 }

@@ -2,7 +2,8 @@
 -- Assumes nothing.
 use mathlib.Core.List.{[], _∷_}
 use borrow.Author.Needs.{needs}
-use Rattle.tracker.specs.Promise.{RowBounds, rowAnswer}
+use Rattle.tracker.specs.Promise.{RowBounds}
+use Rattle.listing.specs.Shown.{shownBy}
 use Rattle.listing.proofs.Bound.{eight}
 use Rattle.listing.proofs.all_shown.Statement.{statement}
 use Rattle.listing.proofs.all_shown.Tie as tie
@@ -42,7 +43,7 @@ returns c = (
       ∷ c .before .shown7 .ensures .0 i
       ∷ c .shown8 .ensures .0 i
       ∷ [],
-  eight (λ d. RowBounds (rowAnswer (c .before .before .before .before .before .before .before .before .args .t) d .row))
+  eight (λ d. RowBounds (shownBy (c .before .before .before .before .before .before .before .before .args .t) d))
       (c .before .before .before .before .before .before .before .shown .ensures .1)
       (c .before .before .before .before .before .before .shown2 .ensures .1)
       (c .before .before .before .before .before .shown3 .ensures .1)

@@ -7,7 +7,8 @@ use lib.ListN.{length}
 use Rattle.text.proofs.Paste.{none}
 use Rattle.journal.specs.Journal.{countOf}
 use Rattle.listing.specs.Line.{joined}
-use Rattle.listing.specs.Listing.{runLines, recordLines, refusedLine}
+use Rattle.listing.specs.Listing.{recordLines, refusedLine}
+use Rattle.listing.specs.Shown.{shownLines}
 use Rattle.listing.proofs.Joins as joins
 use borrow.Author.Needs.{needs}
 use Rattle.listing.proofs.opened.Statement.{statement}
@@ -19,12 +20,12 @@ empty c = joins.no-records (c .before .before .before .args .first) (c .before .
 
 goes : (c : tie.After-enum-told)
     → let a = c .before .before .before .before .before .before .args in
-    joined (recordLines (a .first) (a .records .now)) ≡ joined (runLines (countOf (a .records .now)) (c .before .before .«open» .result .tracker) (a .records .now))
-goes c = joins.opened (c .before .before .before .before .before .before .args .first) (c .before .before .before .before .before .before .args .records .now) (c .before .before .«open» .result) (c .before .before .before .if1 .left) (c .before .before .«open» .ensures .is) (c .enum-told .given .1)
+    joined (recordLines (a .first) (a .records .now)) ≡ joined (shownLines (countOf (a .records .now)) (c .before .before .«open» .result .tracker) (a .records .now))
+goes c = joins.opened (c .before .before .before .before .before .before .args .first) (c .before .before .before .before .before .before .args .records .now) (c .before .before .«open» .result) (c .before .before .before .if1 .left) (c .before .before .«open» .ensures) (c .enum-told .given .1)
 
 ends : (c : tie.After-outcome) → joined (recordLines (c .before .before .before .before .before .before .args .first) (c .before .before .before .before .before .before .args .records .now)) ≡ refusedLine (c .outcome .given .0 .0)
 ends c =
-    joins.unopened (c .before .before .before .before .before .before .args .first) (c .before .before .before .before .before .before .args .records .now) (c .before .before .«open» .result) (c .before .before .before .if1 .left) (c .before .before .«open» .ensures .is) (c .outcome .given .0 .0)
+    joins.unopened (c .before .before .before .before .before .before .args .first) (c .before .before .before .before .before .before .args .records .now) (c .before .before .«open» .result) (c .before .before .before .if1 .left) (c .before .before .«open» .ensures) (c .outcome .given .0 .0)
     (c .outcome .given .1)
 
 returns : tie.Need-returns

@@ -11,7 +11,8 @@ use Rattle.text.proofs.Upto.{Upto, start, room, step, room-last, last, said, en
 use Rattle.journal.specs.Journal.{countOf}
 use Rattle.tracker.specs.Promise.{Came}
 use Rattle.listing.specs.Line.{joined}
-use Rattle.listing.specs.Listing.{eightRows, runLines, refusedLine}
+use Rattle.listing.specs.Listing.{eightRows, refusedLine}
+use Rattle.listing.specs.Shown.{shownBy, shownLines}
 use Rattle.listing.proofs.Joins.{rest, rest-all, rest-none, go-on, go-off}
 use Rattle.listing.proofs.run.Statement.{statement}
 use Rattle.listing.proofs.run.Tie as tie
@@ -22,13 +23,13 @@ Inv-loop records out₀ at u₀ e₀ i₀ out u e i =
     × (i % 168 ≡ 0)
     × (length out ≡ length out₀)
     × Came u
-    × Upto (joined (runLines (countOf records) u₀ records)) (rest records i u) out₀ out at e
+    × Upto (joined (shownLines (countOf records) u₀ records)) (rest records i u) out₀ out at e
 
 abbrev μ-loop : tie.MeasureT-loop
 μ-loop records out₀ at u₀ e₀ i₀ out u e i = length records - i
 
 abbrev whole : tie.Start Inv-loop μ-loop → List ℕ
-whole s = joined (runLines (countOf (s .args .records .now)) (s .args .t) (s .args .records .now))
+whole s = joined (shownLines (countOf (s .args .records .now)) (s .args .t) (s .args .records .now))
 
 -- of the whole, what is left where a call is refused, and where it is accepted
 off : (c : tie.After-outcome Inv-loop μ-loop)
@@ -44,7 +45,7 @@ on : (c : tie.After-enum-told Inv-loop μ-loop)
     → let s = c .before .before .before .before .before .before .before .before in
     let l = c .before .before .before .before .before .loop in
     let t = c .before .before .interval .result .tracker in
-    Upto (whole s) (joined (eightRows t) ++ rest (s .args .records .now) (l .i + 168) t) (s .args .out .now) (l .out) (s .args .at) (l .e)
+    Upto (whole s) (joined (eightRows (shownBy t)) ++ rest (s .args .records .now) (l .i + 168) t) (s .args .out .now) (l .out) (s .args .at) (l .e)
 on c =
     let l = c .before .before .before .before .before .loop in
     let a = c .before .before .interval in
@@ -93,7 +94,7 @@ rows-requires : tie.Need-rows-requires Inv-loop μ-loop
 rows-requires c κs =
     let t = c .before .before .before .before .interval .result .tracker in
     let l = c .before .before .before .before .before .before .before .loop in
-    (c .before .before .before .before .interval .ensures .came, room (joined (eightRows t)) (rest (c .before .before .before .before .before .before .before .before .before .before .args .records .now) (l .i + 168) t) (on (c .before .before)) (length (l .out)) (omega arith))
+    (c .before .before .before .before .interval .ensures .came, room (joined (eightRows (shownBy t))) (rest (c .before .before .before .before .before .before .before .before .before .before .args .records .now) (l .i + 168) t) (on (c .before .before)) (length (l .out)) (omega arith))
 
 loop-less : tie.Need-loop-less Inv-loop μ-loop
 loop-less c = omega arith
@@ -103,7 +104,7 @@ loop-again c =
     let k = c .before .before .rows in
     let t = c .before .before .before .before .before .before .before .interval .result .tracker in
     let l = c .before .before .before .before .before .before .before .before .before .before .loop in
-    let u = step (joined (eightRows t)) (rest (c .before .before .before .before .before .before .before .before .before .before .before .before .before .args .records .now) (l .i + 168) t) (on (c .before .before .before .before .before)) (c .before .before .before .before .before .before .before .before .before .before .before .before .before .pre .1 .1) (k .ensures .0) (k .ensures .1) in
+    let u = step (joined (eightRows (shownBy t))) (rest (c .before .before .before .before .before .before .before .before .before .before .before .before .before .args .records .now) (l .i + 168) t) (on (c .before .before .before .before .before)) (c .before .before .before .before .before .before .before .before .before .before .before .before .before .pre .1 .1) (k .ensures .0) (k .ensures .1) in
     (omega arith, omega arith, omega (arith, k .kept), c .before .before .before .before .before .before .before .interval .ensures .came, u)
 
 same-length-2 : tie.Need-same-length-2 Inv-loop μ-loop
