@@ -2,13 +2,21 @@
 -- Assumes nothing.
 use mathlib.Core.Path.{_≡_, refl, ap, ap₂}
 use mathlib.Core.List.{List, [], _∷_, _++_}
+use mathlib.Core.Option.{Option}
 use Prim.Native.Nat.{ℕ, zero, suc, _+_, _≤_}
 use native.Mathlib.Omega.{arith}
 use lib.ListN.{take, drop}
 use Rattle.tracker.specs.Promise.{Tracker, Came, Opening, run, intervalOf, workedFrom}
 use Rattle.tracker.proofs.Promise.{interval-promise, row-promise}
-use Rattle.listing.specs.Listing.{ifListed, rowLines, runLines}
+use Rattle.listing.specs.Listing.{callLines, ifListed, rowLines, runLines}
 use Rattle.listing.specs.Shown.{shownBy, shownLines}
+
+call-same : {m m' : Option ℕ} {own own' following following' : List (List ℕ)}
+    → m ≡ m'
+    → own ≡ own'
+    → following ≡ following'
+    → callLines m own following ≡ callLines m' own' following'
+call-same e f g = rw (e, f, g)
 
 module _ (o : Opening) where
   led : (calls : List (List ℕ)) (t : Tracker) → t ≡ run o calls → Came t
@@ -35,4 +43,4 @@ module _ (o : Opening) where
       let upto = passed ++ (b ∷ []) in
       let next = interval-promise t (led passed t q) b refl .next o passed q in
       let left = intervalOf t b .tracker in
-      rw (next .number, worked-rows upto left (next .ran) 8 0 (omega arith), worked-run k upto left (next .ran) (drop 168 r))
+      call-same (next .number) (worked-rows upto left (next .ran) 8 0 (omega arith)) (worked-run k upto left (next .ran) (drop 168 r))
