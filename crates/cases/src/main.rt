@@ -3,96 +3,9 @@
 use journal::Found;
 use libc::STDOUT_FILENO;
 use rules::Outcome;
-use rules::Period;
-use rules::Row;
 use rules::Tracker;
-use units::Cents;
-use units::Hundredths;
 ghost use Prim.Native.Nat.{_≤_};
-ghost use lib.IntN.{natAbs};
-ghost use Rattle.tracker.specs.Promise.{Came, RowBounds, highestSum};
-
-// A number and the byte that ends it.
-fn print_number(n: u64, end: u8) {
-    let text = [end];
-    io::print_decimal(STDOUT_FILENO, n);
-    io::write_all(STDOUT_FILENO, &text);
-}
-
-fn print_flag(flag: bool) {
-    if flag {
-        print_number(1, b',');
-    } else {
-        print_number(0, b',');
-    }
-}
-
-fn print_cents(z: Cents)
-    requires { ⌜ natAbs (z .0) ≤ highestSum ⌝ }
-{
-    let mut out = [0u8; 32];
-    let k = text::cents(z, b',', &mut out, 0);
-    io::write_all(STDOUT_FILENO, &out[..k]);
-}
-
-fn print_hundredths(z: Hundredths)
-    requires { ⌜ natAbs (z .0) ≤ 2000000 ⌝ }
-{
-    let mut out = [0u8; 32];
-    let k = text::hundredths(z, b',', &mut out, 0);
-    io::write_all(STDOUT_FILENO, &out[..k]);
-}
-
-// Held or not, first, last, extended; no period is four zeros.
-fn print_period(p: Period) {
-    match p {
-        Period::None => {
-            io::write_all(STDOUT_FILENO, b"0,0,0,0,");
-        }
-        Period::Held(first, last, extended) => {
-            io::write_all(STDOUT_FILENO, b"1,");
-            print_number(first as u64, b',');
-            print_number(last as u64, b',');
-            print_flag(extended);
-        }
-    }
-}
-
-// Every field of a row, in one line.
-fn print_row(r: Row)
-    requires { ⌜ RowBounds r ⌝ }
-{
-    let residue = r.residue;
-    let previous = r.previous;
-    let current = r.current;
-    let amount = r.amount;
-    let next = r.next;
-    let net = r.net;
-    let period = r.period;
-    let counts = r.counts;
-    let clamp = r.clamp;
-    print_number(r.n as u64, b',');
-    print_number(r.direction as u64, b',');
-    print_cents(residue);
-    print_flag(r.applies);
-    print_cents(previous);
-    print_cents(current);
-    print_cents(amount);
-    print_cents(next);
-    print_cents(net);
-    print_period(period);
-    print_number(counts.unbound as u64, b',');
-    print_number(counts.violated as u64, b',');
-    print_flag(r.blocked);
-    print_flag(r.flag);
-    print_hundredths(clamp);
-    print_number(r.notice as u64, b'\n');
-}
-
-fn print_refusal(number: u8) {
-    io::write_all(STDOUT_FILENO, b"refused,");
-    print_number(number as u64, b'\n');
-}
+ghost use Rattle.tracker.specs.Promise.{Came};
 
 // The eight rows of a tracker.
 fn print_rows(t: Tracker)
@@ -100,7 +13,7 @@ fn print_rows(t: Tracker)
 {
     for d in 0..8 {
         let a = tracker::row(t, d);
-        print_row(a.row);
+        report::print_row(a.row);
     }
 }
 
@@ -116,7 +29,7 @@ fn run(t: Tracker, records: &[u8])
         let outcome = a.outcome;
         match outcome {
             Outcome::Refused(number) => {
-                print_refusal(number);
+                report::print_refusal(number);
                 return;
             }
             Outcome::Accepted => {}
@@ -140,7 +53,7 @@ fn print_all_rows(bytes: &[u8]) {
     let found = journal::read(bytes);
     let Found::Journal(count, first, _) = found else {
         if let Found::Refused(number) = found {
-            print_refusal(number);
+            report::print_refusal(number);
         }
         return;
     };
@@ -150,7 +63,7 @@ fn print_all_rows(bytes: &[u8]) {
     let a = tracker::open(first, [500; 6]);
     let outcome = a.outcome;
     if let Outcome::Refused(number) = outcome {
-        print_refusal(number);
+        report::print_refusal(number);
         return;
     }
     run(a.tracker, journal::records(bytes));
@@ -173,17 +86,9 @@ fn print_listing(bytes: &[u8]) {
 
 // One journal, by the name of its file. A byte more than clampday's buffer is read, so that what is too long is seen to be.
 fn run_case(name: &[u8]) {
-    io::write_all(STDOUT_FILENO, b"== ");
-    io::write_all(STDOUT_FILENO, name);
-    io::write_all(STDOUT_FILENO, b"\n");
-    let file = os::open_read(name);
-    if file < 0 {
-        os::fail(name);
-        return;
-    }
+    report::print_name(name);
     let mut input = [0u8; 65537];
-    let n = io::read_full(file, &mut input);
-    libc::close(file);
+    let n = report::read_file(name, &mut input);
     print_listing(&input[..n]);
     print_all_rows(&input[..n]);
 }

@@ -1,11 +1,11 @@
--- `cases::print_cents` is safe: a number of a row has at most 17 digits.
+-- `report::print_cents` is safe: a number of a row has at most 17 digits.
 -- Assumes nothing.
 use native.Mathlib.Omega.{arith}
 use lib.ListN.{length-take}
 use Rattle.text.proofs.Digits.{short-cell}
 use borrow.Author.Needs.{needs}
-use Rattle.cases.proofs.print_cents.Statement.{statement}
-use Rattle.cases.proofs.print_cents.Tie as tie
+use Rattle.report.proofs.print_cents.Statement.{statement}
+use Rattle.report.proofs.print_cents.Tie as tie
 
 slice-aggregate-cents : tie.Need-slice-aggregate-cents
 slice-aggregate-cents c = search needs

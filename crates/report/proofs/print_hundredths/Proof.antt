@@ -1,11 +1,11 @@
--- `cases::print_hundredths` is safe: a number of a row has at most 17 digits.
+-- `report::print_hundredths` is safe: a number of a row has at most 17 digits.
 -- Assumes nothing.
 use native.Mathlib.Omega.{arith}
 use lib.ListN.{length-take}
 use Rattle.text.proofs.Digits.{short-cell}
 use borrow.Author.Needs.{needs}
-use Rattle.cases.proofs.print_hundredths.Statement.{statement}
-use Rattle.cases.proofs.print_hundredths.Tie as tie
+use Rattle.report.proofs.print_hundredths.Statement.{statement}
+use Rattle.report.proofs.print_hundredths.Tie as tie
 
 slice-aggregate-hundredths : tie.Need-slice-aggregate-hundredths
 slice-aggregate-hundredths c = search needs

@@ -1,0 +1,115 @@
+// Rows and numbers printed to standard output, and the files that they are compared over: for the programs that the gate runs.
+use libc::STDOUT_FILENO;
+use rules::Period;
+use rules::Row;
+use units::Cents;
+use units::Hundredths;
+ghost use Prim.Native.Nat.{_≤_};
+ghost use lib.IntN.{natAbs};
+ghost use Rattle.io.specs.Counts.{Counts};
+ghost use Rattle.tracker.specs.Promise.{RowBounds, highestSum};
+
+// A number and the byte that ends it.
+pub fn print_number(n: u64, end: u8) {
+    let text = [end];
+    io::print_decimal(STDOUT_FILENO, n);
+    io::write_all(STDOUT_FILENO, &text);
+}
+
+fn print_flag(flag: bool) {
+    if flag {
+        print_number(1, b',');
+    } else {
+        print_number(0, b',');
+    }
+}
+
+fn print_cents(z: Cents)
+    requires { ⌜ natAbs (z .0) ≤ highestSum ⌝ }
+{
+    let mut out = [0u8; 32];
+    let k = text::cents(z, b',', &mut out, 0);
+    io::write_all(STDOUT_FILENO, &out[..k]);
+}
+
+fn print_hundredths(z: Hundredths)
+    requires { ⌜ natAbs (z .0) ≤ 2000000 ⌝ }
+{
+    let mut out = [0u8; 32];
+    let k = text::hundredths(z, b',', &mut out, 0);
+    io::write_all(STDOUT_FILENO, &out[..k]);
+}
+
+// Held or not, first, last, extended; no period is four zeros.
+fn print_period(p: Period) {
+    match p {
+        Period::None => {
+            io::write_all(STDOUT_FILENO, b"0,0,0,0,");
+        }
+        Period::Held(first, last, extended) => {
+            io::write_all(STDOUT_FILENO, b"1,");
+            print_number(first as u64, b',');
+            print_number(last as u64, b',');
+            print_flag(extended);
+        }
+    }
+}
+
+// Every field of a row, in one line.
+pub fn print_row(r: Row)
+    requires { ⌜ RowBounds r ⌝ }
+{
+    let residue = r.residue;
+    let previous = r.previous;
+    let current = r.current;
+    let amount = r.amount;
+    let next = r.next;
+    let net = r.net;
+    let period = r.period;
+    let counts = r.counts;
+    let clamp = r.clamp;
+    print_number(r.n as u64, b',');
+    print_number(r.direction as u64, b',');
+    print_cents(residue);
+    print_flag(r.applies);
+    print_cents(previous);
+    print_cents(current);
+    print_cents(amount);
+    print_cents(next);
+    print_cents(net);
+    print_period(period);
+    print_number(counts.unbound as u64, b',');
+    print_number(counts.violated as u64, b',');
+    print_flag(r.blocked);
+    print_flag(r.flag);
+    print_hundredths(clamp);
+    print_number(r.notice as u64, b'\n');
+}
+
+pub fn print_refusal(number: u8) {
+    io::write_all(STDOUT_FILENO, b"refused,");
+    print_number(number as u64, b'\n');
+}
+
+// The name of a case, in a line of its own.
+pub fn print_name(name: &[u8]) {
+    io::write_all(STDOUT_FILENO, b"== ");
+    io::write_all(STDOUT_FILENO, name);
+    io::write_all(STDOUT_FILENO, b"\n");
+}
+
+// The file of that name, at the start of the buffer, and how many bytes of it are there. One that is not there has none, and a line that no
+// case has says so: an empty file must not look the same.
+pub fn read_file(name: &[u8], buffer: &mut [u8]) -> usize
+    ensures { λ r. ⌜ Counts r (now (buffer .exit)) ⌝ }
+{
+    let file = os::open_read(name);
+    if file < 0 {
+        io::write_all(STDOUT_FILENO, b"not opened\n");
+        os::fail(name);
+        return 0;
+    }
+    let n = io::read_full(file, buffer);
+    libc::close(file);
+    n
+}
