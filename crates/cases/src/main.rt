@@ -84,24 +84,18 @@ fn print_listing(bytes: &[u8]) {
     io::write_all(STDOUT_FILENO, &out[..k]);
 }
 
-// One journal, by the name of its file. A byte more than clampday's buffer is read, so that what is too long is seen to be.
-fn run_case(name: &[u8]) {
-    report::print_name(name);
+// The journal that argument i names. A byte more than clampday's buffer is read, so that what is too long is seen to be.
+fn run_case(i: usize) {
+    report::print_argument(i);
     let mut input = [0u8; 65537];
-    let n = report::read_file(name, &mut input);
+    let n = report::read_argument(i, &mut input);
     print_listing(&input[..n]);
     print_all_rows(&input[..n]);
-}
-
-fn run_argument(i: usize) {
-    let mut name = [0u8; 64];
-    let k = os::arg(i, &mut name);
-    run_case(&name[..k]);
 }
 
 fn main() {
     let count = os::arg_count();
     for i in 1..count {
-        run_argument(i);
+        run_case(i);
     }
 }

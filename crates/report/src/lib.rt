@@ -1,4 +1,4 @@
-// Rows and numbers printed to standard output, and the files that they are compared over: for the programs that the gate runs.
+// Rows and numbers printed to standard output, and the files that arguments name: for the programs that the gate runs.
 use libc::STDOUT_FILENO;
 use rules::Period;
 use rules::Row;
@@ -91,16 +91,18 @@ pub fn print_refusal(number: u8) {
     print_number(number as u64, b'\n');
 }
 
-// The name of a case, in a line of its own.
-pub fn print_name(name: &[u8]) {
+// Argument i of the program, which names a file, in a line of its own.
+pub fn print_argument(i: usize) {
+    let mut name = [0u8; 64];
+    let k = os::arg(i, &mut name);
     io::write_all(STDOUT_FILENO, b"== ");
-    io::write_all(STDOUT_FILENO, name);
+    io::write_all(STDOUT_FILENO, &name[..k]);
     io::write_all(STDOUT_FILENO, b"\n");
 }
 
 // The file of that name, at the start of the buffer, and how many bytes of it are there. One that is not there has none, and a line that no
-// case has says so: an empty file must not look the same.
-pub fn read_file(name: &[u8], buffer: &mut [u8]) -> usize
+// case has says so: it must not look like an empty file.
+fn read_file(name: &[u8], buffer: &mut [u8]) -> usize
     ensures { λ r. ⌜ Counts r (now (buffer .exit)) ⌝ }
 {
     let file = os::open_read(name);
@@ -112,4 +114,13 @@ pub fn read_file(name: &[u8], buffer: &mut [u8]) -> usize
     let n = io::read_full(file, buffer);
     libc::close(file);
     n
+}
+
+// The file that argument i names.
+pub fn read_argument(i: usize, buffer: &mut [u8]) -> usize
+    ensures { λ r. ⌜ Counts r (now (buffer .exit)) ⌝ }
+{
+    let mut name = [0u8; 64];
+    let k = os::arg(i, &mut name);
+    read_file(&name[..k], buffer)
 }
