@@ -1,0 +1,2 @@
+-- What a call of a script refers to.
+pub mod Script

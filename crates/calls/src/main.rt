@@ -1,0 +1,278 @@
+// Runs scripts of calls through the library, each on one tracker: for each script its name, and a line for each call with its answer. The
+// gate compares what is printed with stored answers. The arguments are two files a script: its calls, and the records that they refer to.
+use journal::Found;
+use journal::Written;
+use libc::STDOUT_FILENO;
+use report::print_number;
+use rules::Outcome;
+use rules::Tracker;
+ghost use mathlib.Core.Path.{_≡_};
+ghost use Prim.Native.Nat.{_<_, _≤_};
+ghost use lib.Dec.{leb};
+ghost use lib.ListN.{length};
+ghost use Rattle.tracker.specs.Promise.{Came};
+ghost use Rattle.calls.specs.Script.{wordOf, partEnd};
+
+// A call is 52 words of four bytes: its kind, its numbers, zeros.
+const CALL: usize = 208;
+
+// What stands after the records in a journal.
+const TRAILER: usize = 16;
+
+// More than any script, and any buffer that it writes to, is long.
+const LONGEST: usize = 131072;
+
+// Word k of a call.
+fn word(call: &[u8], k: usize) -> u32
+    requires { ⌜ (length (now call) ≡ 208) × (k < 52) ⌝ }
+    ensures { λ r. ⌜ r ≡ wordOf (now (call .entry)) k ⌝ }
+{
+    words::u32_at(call, 4 * k)
+}
+
+// For what no call of the library can be made of; no answer is like it.
+fn no_call() {
+    io::write_all(STDOUT_FILENO, b"no call\n");
+}
+
+// Document 01's number of an outcome, 0 if accepted.
+fn print_outcome(outcome: Outcome, end: u8) {
+    match outcome {
+        Outcome::Accepted => print_number(0, end),
+        Outcome::Refused(number) => print_number(number as u64, end),
+    }
+}
+
+// A part of the records is told by AT, where it begins, and LEN, how long it is: the first two numbers of a call. Is it there?
+fn has_part(call: &[u8], records: &[u8]) -> bool
+    requires { ⌜ length (now call) ≡ 208 ⌝ }
+    ensures { λ r. ⌜ r ≡ leb (partEnd (now (call .entry))) (length (now (records .entry))) ⌝ }
+{
+    word(call, 1) as usize + word(call, 2) as usize <= records.len()
+}
+
+fn part<'a>(call: &[u8], records: &'a [u8]) -> &'a [u8]
+    requires { ⌜ (length (now call) ≡ 208) × (partEnd (now call) ≤ length (now records)) ⌝ }
+{
+    let at = word(call, 1) as usize;
+    let end = at + word(call, 2) as usize;
+    &records[at..end]
+}
+
+// Is every share of an opening a u16, as the library takes it?
+fn shares_fit(call: &[u8]) -> bool
+    requires { ⌜ length (now call) ≡ 208 ⌝ }
+{
+    for i in 2..8 {
+        if 65535 < word(call, i) {
+            return false;
+        }
+    }
+    true
+}
+
+fn share(call: &[u8], k: usize) -> u16
+    requires { ⌜ (length (now call) ≡ 208) × (k < 52) ⌝ }
+{
+    (word(call, k) % 65536) as u16
+}
+
+// open FIRST S0 .. S5: a refused opening too goes on with the tracker beside it.
+fn open(t: Tracker, call: &[u8]) -> Tracker
+    requires { ⌜ Came t × (length (now call) ≡ 208) ⌝ }
+    ensures { λ r. ⌜ Came r ⌝ }
+{
+    if shares_fit(call) {
+        let shares = [
+            share(call, 2),
+            share(call, 3),
+            share(call, 4),
+            share(call, 5),
+            share(call, 6),
+            share(call, 7),
+        ];
+        let a = tracker::open(word(call, 1), shares);
+        let outcome = a.outcome;
+        print_outcome(outcome, b'\n');
+        return a.tracker;
+    }
+    no_call();
+    t
+}
+
+// interval AT LEN
+fn interval(t: Tracker, call: &[u8], records: &[u8]) -> Tracker
+    requires { ⌜ Came t × (length (now call) ≡ 208) ⌝ }
+    ensures { λ r. ⌜ Came r ⌝ }
+{
+    if has_part(call, records) {
+        let a = tracker::interval(t, part(call, records));
+        let outcome = a.outcome;
+        print_outcome(outcome, b'\n');
+        return a.tracker;
+    }
+    no_call();
+    t
+}
+
+// row D
+fn row(t: Tracker, call: &[u8])
+    requires { ⌜ Came t × (length (now call) ≡ 208) ⌝ }
+{
+    let a = tracker::row(t, word(call, 1) as usize);
+    let outcome = a.outcome;
+    print_outcome(outcome, b',');
+    report::print_row(a.row);
+}
+
+// Where in the journal its records lie, and their length. They are compared byte for byte with what lies before the trailer, since no
+// slice tells its place; an empty part lies nowhere, which is 0.
+fn print_place(journal: &[u8], records: &[u8]) {
+    let length = records.len();
+    if length == 0 {
+        io::write_all(STDOUT_FILENO, b"0 0\n");
+        return;
+    }
+    if length <= journal.len() {
+        let before = journal.len() - length;
+        if TRAILER <= before {
+            let at = before - TRAILER;
+            let end = at + length;
+            if check::same(&journal[at..end], records) {
+                print_number(at as u64, b' ');
+                print_number(length as u64, b'\n');
+                return;
+            }
+        }
+    }
+    io::write_all(STDOUT_FILENO, b"other\n");
+}
+
+fn print_found(journal: &[u8]) {
+    let found = journal::read(journal);
+    match found {
+        Found::Journal(count, first, last) => {
+            print_number(0, b' ');
+            print_number(count as u64, b' ');
+            print_number(first as u64, b' ');
+            print_number(last as u64, b' ');
+        }
+        Found::Refused(number) => {
+            print_number(number as u64, b' ');
+            io::write_all(STDOUT_FILENO, b"0 0 0 ");
+        }
+    }
+    print_place(journal, journal::records(journal));
+}
+
+// read AT LEN
+fn read(call: &[u8], records: &[u8])
+    requires { ⌜ length (now call) ≡ 208 ⌝ }
+{
+    if has_part(call, records) {
+        print_found(part(call, records));
+        return;
+    }
+    no_call();
+}
+
+// Each byte as often as its place says, the first once: it tells a changed byte and a moved one.
+fn weighed(bytes: &[u8]) -> u64
+    requires { ⌜ length (now bytes) ≤ 131072 ⌝ }
+{
+    let mut sum = 0;
+    let mut i = 0;
+    while i < bytes.len() {
+        sum = (sum + (i + 1) * bytes[i] as usize) % 4294967296;
+        i += 1;
+    }
+    sum as u64
+}
+
+// The journal of these records, written into the buffer, and all bytes of the buffer afterwards.
+fn print_written(records: &[u8], out: &mut [u8])
+    requires { ⌜ length (now out) ≤ 131072 ⌝ }
+{
+    let written = journal::write(records, out);
+    match written {
+        Written::Bytes(n) => {
+            print_number(0, b' ');
+            print_number(n as u64, b' ');
+        }
+        Written::Refused(number) => {
+            print_number(number as u64, b' ');
+            print_number(0, b' ');
+        }
+    }
+    print_number(weighed(out), b'\n');
+}
+
+// A buffer as it is before a write: not zeros, so that bytes that a write leaves alone are seen. Its length is told, so that it may be cut.
+fn filled() -> [u8; LONGEST]
+    ensures { λ r. ⌜ 131072 ≡ length r ⌝ }
+{
+    [0xA5; LONGEST]
+}
+
+// write AT LEN ROOM
+fn write(call: &[u8], records: &[u8])
+    requires { ⌜ length (now call) ≡ 208 ⌝ }
+{
+    let room = word(call, 3) as usize;
+    if LONGEST < room {
+        no_call();
+        return;
+    }
+    if has_part(call, records) {
+        let mut out = filled();
+        print_written(part(call, records), &mut out[..room]);
+        return;
+    }
+    no_call();
+}
+
+// One call, by its kind. What may change the tracker gives the next one.
+fn run_call(t: Tracker, call: &[u8], records: &[u8]) -> Tracker
+    requires { ⌜ Came t × (length (now call) ≡ 208) ⌝ }
+    ensures { λ r. ⌜ Came r ⌝ }
+{
+    match word(call, 0) {
+        0 => return open(t, call),
+        2 => return interval(t, call, records),
+        7 => row(t, call),
+        8 => read(call, records),
+        9 => write(call, records),
+        _ => no_call(),
+    }
+    t
+}
+
+// The calls of a script in their turn. Before any opening stands the tracker of one at 0 with all shares 0.
+fn run(calls: &[u8], records: &[u8]) {
+    let opened = tracker::open(0, [0; 6]);
+    let mut now = opened.tracker;
+    let mut at = 0;
+    while calls.len() - at >= CALL {
+        let end = at + CALL;
+        let next = run_call(now, &calls[at..end], records);
+        now = next;
+        at = end;
+    }
+}
+
+// A script, by the arguments that name its two files.
+fn run_script(script: usize, beside: usize) {
+    report::print_argument(script);
+    let mut calls = [0u8; LONGEST];
+    let n = report::read_argument(script, &mut calls);
+    let mut records = [0u8; LONGEST];
+    let m = report::read_argument(beside, &mut records);
+    run(&calls[..n], &records[..m]);
+}
+
+fn main() {
+    let count = os::arg_count();
+    for k in 0..count / 2 {
+        run_script(2 * k + 1, 2 * k + 2);
+    }
+}
