@@ -3,3 +3,4 @@ mod Order
 pub mod Accept
 mod Words
 pub mod Round
+pub mod Promise

@@ -108,14 +108,9 @@ reads-back-by r d b Accepted e =
     subst (λ (s : List ℕ). Finds s r) (sym same) (written-found r b (w .records) (w .order))
 reads-back-by r d b (RefusedBy k) e = tt
 
-reads-back : (r d : List ℕ) → Bytewise r → ReadsBack (writtenOf r (length d)) r (bufferOf r d)
+pub reads-back : (r d : List ℕ) → Bytewise r → ReadsBack (writtenOf r (length d)) r (bufferOf r d)
 unfolding writtenOf bufferOf
 reads-back r d b = reads-back-by r d b (writeOutcome r (length d)) refl
-
--- all that `write` ensures, once its answer w and the buffer that it leaves are what the definitions give
-pub write-ensures : {w : Written} {out : List ℕ} (r d : List ℕ) → SliceOfBytes r → w ≡ writtenOf r (length d) → out ≡ bufferOf r d
-    → (w ≡ writtenOf r (length d)) × ((out ≡ bufferOf r d) × ReadsBack w r out)
-write-ensures r d b answer buffer = (answer, (buffer, rw (answer, buffer) (reads-back r d (bytewise r b))))
 
 -- ---- read and written
 module _ (s : List ℕ) (bytes : Bytewise s) (ok : readOutcome s ≡ Accepted) where
@@ -178,10 +173,6 @@ writes-back-by : (s : List ℕ) → Bytewise s → (o : Outcome) → readOutcome
 writes-back-by s b Accepted e = rewrites s b e
 writes-back-by s b (RefusedBy k) e = tt
 
-writes-back : (s : List ℕ) → Bytewise s → WritesBack (readOf s) s
+pub writes-back : (s : List ℕ) → Bytewise s → WritesBack (readOf s) s
 unfolding readOf
 writes-back s b = writes-back-by s b (readOutcome s) refl
-
--- all that `read` ensures, once its answer f is what the definition gives
-pub read-ensures : {f : Found} (s : List ℕ) → SliceOfBytes s → f ≡ readOf s → (f ≡ readOf s) × WritesBack f s
-read-ensures s b answer = (answer, rw answer (writes-back s (bytewise s b)))

@@ -2,10 +2,11 @@
 -- Three types have a variant Refused: that of an outcome is RefusedBy here, that of a read Refused, that of a write NotWritten.
 use mathlib.Core.Bool.{Bool, true, not, cond, _&&_, _||_}
 use mathlib.Core.List.{List, [], _∷_, _++_}
+use mathlib.Core.Option.{Option, none, some}
 use Prim.Native.Nat.{ℕ, zero, suc, _+_, _*_, _-_, _/_, _%_}
 use lib.Dec.{eqb, ltb}
 use lib.ListN.{length, take, drop}
-pub use Rattle.tracker.specs.Promise.{Outcome, Accepted, Refused as RefusedBy, Condition, _⇒_, judged}
+pub use Rattle.tracker.specs.Promise.{Outcome, Accepted, Refused as RefusedBy, Condition, _⇒_, judged, numberOf, numberMet}
 unfoldable pub use Rattle.tracker.specs.Promise.{u32At}
 use Rattle.text.specs.Text.{littleOf, over}
 use Rattle.journal.specs.declared.Found.{Found}
@@ -96,6 +97,15 @@ foundBy (RefusedBy k) s = Refused k
 unfoldable pub readOf : List ℕ → Found
 readOf s = foundBy (readOutcome s) s
 
+-- The number and the values of each answer of a read: an acceptance has no number, a refusal no values.
+abbrev pub foundNumber : Found → Option ℕ
+foundNumber (Journal n a z) = none
+foundNumber (Refused k) = some k
+
+abbrev pub foundValues : Found → List ℕ
+foundValues (Journal n a z) = n ∷ a ∷ z ∷ []
+foundValues (Refused k) = []
+
 -- And the records, as the part of the lent journal that holds them; on a refusal it has length 0.
 abbrev pub recordsBy : Outcome → List ℕ → List ℕ
 recordsBy Accepted s = part s
@@ -132,6 +142,15 @@ writtenBy (RefusedBy k) r = NotWritten k
 
 unfoldable pub writtenOf : List ℕ → ℕ → Written
 writtenOf r room = writtenBy (writeOutcome r room) r
+
+-- The number and the value of each answer of a write.
+abbrev pub writtenNumber : Written → Option ℕ
+writtenNumber (Bytes n) = none
+writtenNumber (NotWritten k) = some k
+
+abbrev pub writtenValues : Written → List ℕ
+writtenValues (Bytes n) = n ∷ []
+writtenValues (NotWritten k) = []
 
 -- The lent buffer afterwards: on success bytes after the journal keep their values, on a refusal all do.
 abbrev pub bufferBy : Outcome → List ℕ → List ℕ → List ℕ

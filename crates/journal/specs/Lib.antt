@@ -2,3 +2,4 @@
 pub mod Journal
 pub mod Shape
 pub mod RoundTrip
+pub mod Promise

@@ -5,9 +5,9 @@ ghost use mathlib.Core.Path.{_≡_};
 ghost use Prim.Native.Nat.{_+_, _*_, _<_, _≤_};
 ghost use lib.ListN.{length};
 ghost use Rattle.text.specs.Text.{over};
-ghost use Rattle.journal.specs.Journal.{numberAt, firstOf, lastOf, follows, inOrder, trailer, part, badLength, badTrailer, badNumbers, badRecords, readOutcome, readOf, recordsOf, journalOf, writeOutcome, writtenOf, bufferOf};
+ghost use Rattle.journal.specs.Journal.{numberAt, firstOf, lastOf, follows, inOrder, trailer, part, badLength, badTrailer, badNumbers, badRecords, readOutcome, recordsOf, journalOf, writeOutcome};
 ghost use Rattle.journal.specs.Shape.{Shaped, Whole};
-ghost use Rattle.journal.specs.RoundTrip.{ReadsBack, WritesBack};
+ghost use Rattle.journal.specs.Promise.{ReadPromise, WritePromise};
 
 // What a read gives: count, first n and last n, or a refusal's number.
 pub enum Found {
@@ -166,8 +166,7 @@ fn read_outcome(journal: &[u8]) -> Outcome
 
 // What a journal holds.
 pub fn read(journal: &[u8]) -> Found
-    ensures { λ r. ⌜ r ≡ readOf (now (journal .entry)) ⌝ }
-    ensures { λ r. ⌜ WritesBack r (now (journal .entry)) ⌝ }
+    ensures { λ r. ⌜ ReadPromise (now (journal .entry)) r ⌝ }
 {
     let outcome = read_outcome(journal);
     match outcome {
@@ -234,9 +233,7 @@ fn fill(records: &[u8], out: &mut [u8]) -> usize
 
 // A journal of these records, at the start of the buffer; the bytes after it keep their values, and on a refusal all do.
 pub fn write(records: &[u8], out: &mut [u8]) -> Written
-    ensures { λ w. ⌜ w ≡ writtenOf (now (records .entry)) (length (now (out .entry))) ⌝ }
-    ensures { λ w. ⌜ now (out .exit) ≡ bufferOf (now (records .entry)) (now (out .entry)) ⌝ }
-    ensures { λ w. ⌜ ReadsBack w (now (records .entry)) (now (out .exit)) ⌝ }
+    ensures { λ w. ⌜ WritePromise (now (records .entry)) (now (out .entry)) w (now (out .exit)) ⌝ }
 {
     let outcome = write_outcome(records, out.len());
     match outcome {

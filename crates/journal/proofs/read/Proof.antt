@@ -1,4 +1,4 @@
--- `journal::read` meets its contract: what the outcome's case gives, and so the round trip.
+-- `journal::read` meets its contract: what the outcome's case gives, and so the promise.
 -- Assumes nothing.
 use mathlib.Core.Path.{_≡_, sym, _∙_}
 use Prim.Native.Nat.{_≤_}
@@ -6,7 +6,7 @@ use lib.ListN.{length}
 use borrow.Author.Needs.{needs}
 use Rattle.journal.specs.Journal.{Accepted, readOutcome, readOf}
 use Rattle.journal.proofs.Accept.{sound}
-use Rattle.journal.proofs.Round.{read-ensures}
+use Rattle.journal.proofs.Promise.{read-promise}
 use Rattle.journal.proofs.read.Statement.{statement}
 use Rattle.journal.proofs.read.Tie as tie
 
@@ -38,14 +38,14 @@ returns : tie.Need-returns
 unfolding readOf
 returns c =
     let known = c .before .before .before .before .before .before in
-    read-ensures (known .before .args .journal .now) (known .shared-slice-known .given)
+    read-promise (known .before .args .journal .now) (known .shared-slice-known .given)
     (rw (accepted (c .before .before .before), c .before .before .trailer .ensures, c .before .trailer2 .ensures, c .trailer3 .ensures))
 
 returns-2 : tie.Need-returns-2
 unfolding readOf
 returns-2 c =
     let known = c .before .before .before .before in
-    read-ensures (known .before .args .journal .now) (known .shared-slice-known .given)
+    read-promise (known .before .args .journal .now) (known .shared-slice-known .given)
     (rw (sym (c .before .before .before .read-outcome .ensures) ∙ c .before .outcome .given .1))
 
 pub read-spec : {M : Type 1} → statement M

@@ -1,11 +1,11 @@
--- `journal::write` meets its contract: what the outcome's case gives, and so the round trip.
+-- `journal::write` meets its contract: what the outcome's case gives, and so the promise.
 -- Assumes nothing.
 use mathlib.Core.Path.{_≡_, sym, _∙_}
 use lib.ListN.{length}
 use borrow.Author.Needs.{needs}
 use Rattle.journal.specs.Journal.{Accepted, writeOutcome, writtenOf, bufferOf}
 use Rattle.journal.proofs.Accept.{writable}
-use Rattle.journal.proofs.Round.{write-ensures}
+use Rattle.journal.proofs.Promise.{write-promise}
 use Rattle.journal.proofs.write.Statement.{statement}
 use Rattle.journal.proofs.write.Tie as tie
 
@@ -36,7 +36,7 @@ returns : tie.Need-returns
 unfolding writtenOf bufferOf
 returns c =
     let a = c .before .before .before .before .before .before .before .before .before .args in
-    write-ensures (a .records .now) (a .out .now) (c .before .before .before .before .before .before .before .before .shared-slice-known .given)
+    write-promise (a .records .now) (a .out .now) (c .before .before .before .before .before .before .before .before .shared-slice-known .given)
     (rw (accepted (c .before .before .before .before), c .before .before .fill .ensures .0))
     (rw (accepted (c .before .before .before .before)) (c .before .before .fill .ensures .1))
 
@@ -45,7 +45,7 @@ unfolding writtenOf bufferOf
 returns-2 c =
     let a = c .before .before .before .before .before .before .args in
     let refused = sym (c .before .before .before .write-outcome .ensures) ∙ c .before .outcome .given .1 in
-    write-ensures (a .records .now) (a .out .now) (c .before .before .before .before .before .shared-slice-known .given) (rw refused) (rw refused)
+    write-promise (a .records .now) (a .out .now) (c .before .before .before .before .before .shared-slice-known .given) (rw refused) (rw refused)
 
 pub write-spec : {M : Type 1} → statement M
 write-spec =

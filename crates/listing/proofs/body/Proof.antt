@@ -16,10 +16,10 @@ use Rattle.listing.proofs.body.Tie as tie
 goes : (c : tie.After-found)
     → let s = c .before .before .before .before .before .args .journal .now in
     joined (bodyLines s) ≡ joined (recordLines (c .found .given .0 .1 .0) (recordsOf s))
-goes c = joins.found (c .before .before .before .before .before .args .journal .now) (c .before .before .read .result) (c .before .before .read .ensures .0) (c .found .given .1)
+goes c = joins.found (c .before .before .before .before .before .args .journal .now) (c .before .before .read .result) (c .before .before .read .ensures .is) (c .found .given .1)
 
 ends : (c : tie.After-found2) → joined (bodyLines (c .before .before .before .before .before .args .journal .now)) ≡ refusedLine (c .found2 .given .0 .0)
-ends c = joins.unread (c .before .before .before .before .before .args .journal .now) (c .before .before .read .result) (c .before .before .read .ensures .0) (c .found2 .given .1)
+ends c = joins.unread (c .before .before .before .before .before .args .journal .now) (c .before .before .read .result) (c .before .before .read .ensures .is) (c .found2 .given .1)
 
 read-requires : tie.Need-read-requires
 read-requires c κs = search needs
