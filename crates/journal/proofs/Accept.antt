@@ -1,17 +1,19 @@
 -- What a journal that a read accepts, and records that a write accepts, have passed.
 -- Assumes nothing.
-use mathlib.Core.Path.{_≡_, refl}
+use mathlib.Core.Path.{_≡_, refl, sym, ap, _∙_}
 use mathlib.Core.Bool.{true, false, not}
 use mathlib.Core.List.{List}
+use mathlib.Core.Option.{some}
 use Prim.Native.Nat.{ℕ, _+_, _*_, _%_, _≤_}
 use native.Mathlib.Omega.{arith}
 use borrow.Author.Tests.{ltb-false, eqb-true, not-false}
 use lib.Dec.{ltb, eqb}
 use lib.ListN.{length, length-take, length-drop}
-use Rattle.tracker.proofs.Promise.{both-false}
+use Rattle.tracker.proofs.Promise.{both-false, number-met}
 pub use Rattle.tracker.proofs.Promise.{accepted-iff}
-use Rattle.journal.specs.Journal.{Outcome, Accepted, RefusedBy, count, distance, first, last, preface, part, countOf, firstOf, lastOf, inOrder, badLength, badTrailer, badNumbers, readConditions, readOutcome, recordsBy, recordsOf, badRecords, writeConditions, writeOutcome}
+use Rattle.journal.specs.Journal.{Outcome, Accepted, RefusedBy, numberOf, numberMet, count, distance, first, last, preface, part, countOf, firstOf, lastOf, inOrder, badLength, badTrailer, badNumbers, readConditions, readOutcome, recordsOf, badRecords, writeConditions, writeOutcome}
 use Rattle.journal.specs.Shape.{Shaped, Whole}
+use Rattle.journal.proofs.Laws.{records-found, no-records}
 
 pub long : (s : List ℕ) → badLength s ≡ false → 16 ≤ length s
 unfolding badLength
@@ -54,17 +56,19 @@ sound s e =
     }
 
 -- so the records that a read finds are whole ones, at most 288, and none on a refusal: what a caller relies on that goes through them
-whole-by : (s : List ℕ) (o : Outcome) → readOutcome s ≡ o → Whole (recordsBy o s)
+whole-by : (s : List ℕ) (o : Outcome) → readOutcome s ≡ o → Whole (recordsOf s)
+unfolding readOutcome
 whole-by s Accepted e =
     let h = sound s e .shape in
     let l = part-length s h in
     let back = h .back in
     let most = h .most in
-    record { whole = omega arith; few = omega arith }
-whole-by s (RefusedBy k) e = record { whole = refl; few = omega arith }
+    rw (records-found s e) (record { whole = omega arith; few = omega arith })
+whole-by s (RefusedBy k) e =
+    let met : numberMet (readConditions s) ≡ some k = sym (number-met (readConditions s)) ∙ ap numberOf e in
+    rw (no-records s k met) (record { whole = refl; few = omega arith })
 
 pub records-whole : (s : List ℕ) → Whole (recordsOf s)
-unfolding recordsOf
 records-whole s = whole-by s (readOutcome s) refl
 
 pub record Writable (r : List ℕ) (room : ℕ) : Type 0 where

@@ -8,7 +8,7 @@ use lib.ListN.{length}
 use Rattle.tracker.proofs.Promise.{number-met}
 use Rattle.journal.specs.declared.Found.{Found}
 use Rattle.journal.specs.declared.Written.{Written}
-use Rattle.journal.specs.Journal.{Outcome, Accepted, RefusedBy, judged, numberOf, numberMet, count, first, last, readConditions, readOutcome, foundBy, readOf, foundNumber, foundValues, writeConditions, writeOutcome, writtenBy, writtenOf, bufferOf, writtenNumber, writtenValues}
+use Rattle.journal.specs.Journal.{Outcome, Accepted, RefusedBy, judged, numberOf, count, first, last, readConditions, readOutcome, foundBy, readOf, foundNumber, foundValues, writeConditions, writeOutcome, writtenBy, writtenOf, bufferOf, writtenNumber, writtenValues}
 use Rattle.journal.specs.Promise.{unlessRefused, ReadPromise, WritePromise}
 use Rattle.journal.proofs.Words.{SliceOfBytes, bytewise}
 use Rattle.journal.proofs.Round.{writes-back, reads-back}

@@ -7,26 +7,21 @@ use Prim.Native.Nat.{ℕ, _+_, _*_, _-_, _%_, _<_, _≤_}
 use native.Mathlib.Omega.{arith}
 use borrow.Author.Tests.{le-ltb, eq-eqb}
 use lib.Dec.{eqb}
-use lib.ListN.{length, take, drop, length-append, length-drop, take-append-drop}
+use lib.ListN.{length, take, drop, length-drop, take-append-drop}
 use lib.Seq.{take-append-seam, drop-drop}
 use Rattle.text.specs.Text.{over}
-use Rattle.journal.specs.declared.Found.{Found}
-use Rattle.journal.specs.declared.Written.{Written}
 use Rattle.journal.specs.declared.Written.the-variants.{Bytes}
 use Rattle.journal.specs.Journal.{Outcome, Accepted, RefusedBy, u32At, trailer, count, distance, first, last, preface, part, countOf, numberAt, firstOf, lastOf, inOrder, badLength, badTrailer, badNumbers, readConditions, readOutcome, foundBy, readOf, recordsOf, trailerOf, journalOf, badRecords, writeConditions, writeOutcome, writtenBy, writtenOf, bufferBy, bufferOf}
 use Rattle.journal.specs.Shape.{Whole}
 use Rattle.journal.specs.RoundTrip.{Finds, ReadsBack, Rewrites, WritesBack}
+use Rattle.journal.proofs.Laws.{journal-length, records-found}
 use Rattle.journal.proofs.Accept.{accepted-iff, sound, part-length, writable}
-use Rattle.journal.proofs.Words.{Bytewise, SliceOfBytes, bytewise, u32-below, u32-past, u32-drop, u32-little, bytes-drop, sixteen}
+use Rattle.journal.proofs.Words.{Bytewise, u32-below, u32-past, u32-drop, u32-little, bytes-drop, sixteen}
 
 -- ---- written and read
 zero-or-below : (t : Bool) (n : ℕ) → n < 4294967296 → cond t 0 n < 4294967296
 zero-or-below true n h = omega arith
 zero-or-below false n h = h
-
-journal-length : (r : List ℕ) → length (journalOf r) ≡ length r + 16
-unfolding journalOf
-journal-length r = length-append r (trailerOf r)
 
 module _ (r : List ℕ) (bytes : Bytewise r) (w : Whole r) where
   first-below : firstOf r < 4294967296
@@ -114,10 +109,6 @@ reads-back r d b = reads-back-by r d b (writeOutcome r (length d)) refl
 
 -- ---- read and written
 module _ (s : List ℕ) (bytes : Bytewise s) (ok : readOutcome s ≡ Accepted) where
-  is-records : recordsOf s ≡ part s
-  unfolding recordsOf
-  is-records = simp ok
-
   split : drop (preface s) s ≡ part s ++ drop (length s - 16) s
   unfolding part
   split =
@@ -165,8 +156,8 @@ module _ (s : List ℕ) (bytes : Bytewise s) (ok : readOutcome s ≡ Accepted) w
       let l = part-length s (sound s ok .shape) in
       let n : distance s + 16 ≡ length (journalOf (part s)) = let j = journal-length (part s) in omega arith in
       record {
-        accepted = rw (is-records, accept) (ap (λ (k : ℕ). Bytes (k + 16)) l);
-        same = rw (is-records, accept) (taken (journalOf (part s)) d (distance s + 16) n ∙ rewritten);
+        accepted = rw (records-found s ok, accept) (ap (λ (k : ℕ). Bytes (k + 16)) l);
+        same = rw (records-found s ok, accept) (taken (journalOf (part s)) d (distance s + 16) n ∙ rewritten);
       }
 
 writes-back-by : (s : List ℕ) → Bytewise s → (o : Outcome) → readOutcome s ≡ o → WritesBack (foundBy o s) s

@@ -10,20 +10,21 @@ use Rattle.journal.specs.declared.Written.{Written}
 use Rattle.journal.specs.Journal.{numberMet, count, first, last, readConditions, readOf, foundNumber, foundValues, writeConditions, writtenOf, bufferOf, writtenNumber, writtenValues}
 use Rattle.journal.specs.RoundTrip.{ReadsBack, WritesBack}
 
--- The first condition met, as listed, gives the number. A refusal returns only its number: values stand where there is none.
+-- A refusal returns only its number: where there is one, there are no values.
 abbrev pub unlessRefused : Option ℕ → List ℕ → List ℕ
 unlessRefused none values = values
 unlessRefused (some k) values = []
 
--- A read of journal s answers what document 01 says: count, first n and last n as the trailer has them. What it accepts, a write gives back.
+-- A read of journal s returns what document 01 says: the number of the first condition met, or else count, first n and last n. What it finds,
+-- a write gives back.
 pub record ReadPromise (s : List ℕ) (answer : Found) : Type 0 where
   pub is : answer ≡ readOf s
   pub number : foundNumber answer ≡ numberMet (readConditions s)
   pub values : foundValues answer ≡ unlessRefused (numberMet (readConditions s)) (count s ∷ first s ∷ last s ∷ [])
   pub writes-back : WritesBack answer s
 
--- A write of records r into buffer d answers what document 01 says, the number of bytes written, and leaves the buffer so. What it writes, a
--- read gives back.
+-- A write of records r into buffer d returns what document 01 says, the number of the first condition met, or else that of the bytes written,
+-- and leaves in the buffer what document 01 says. What it writes, a read gives back.
 pub record WritePromise (r d : List ℕ) (answer : Written) (left : List ℕ) : Type 0 where
   pub is : answer ≡ writtenOf r (length d)
   pub buffer : left ≡ bufferOf r d

@@ -1,5 +1,5 @@
 // The journal: records end to end with a trailer. A read checks all of it and says what it holds; a write makes one. Every call takes any
-// bytes: what document 01 refuses comes back as its number.
+// bytes: what document 01 refuses comes back as its number. What a read and a write return, for every input, is in specs/Promise.
 use rules::Outcome;
 ghost use mathlib.Core.Path.{_≡_};
 ghost use Prim.Native.Nat.{_+_, _*_, _<_, _≤_};
