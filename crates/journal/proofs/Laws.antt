@@ -15,7 +15,7 @@ use Rattle.tracker.proofs.Promise.{number-met}
 use Rattle.journal.specs.declared.Found.{Found}
 use Rattle.journal.specs.declared.Found.the-variants.{Journal, Refused}
 use Rattle.journal.specs.declared.Written.{Written}
-use Rattle.journal.specs.declared.Written.the-variants.{Refused as NotWritten}
+use Rattle.journal.specs.declared.Written.the-variants.{Bytes, Refused as NotWritten}
 use Rattle.journal.specs.Journal.{Outcome, Accepted, RefusedBy, Condition, judged, numberOf, numberMet, u32At, countOf, firstOf, lastOf, inOrderTo, count, distance, part, badLength, badTrailer, badNumbers, readConditions, readOutcome, readOf, foundNumber, foundValues, recordsBy, recordsOf, trailerOf, journalOf, badRecords, writeConditions, writeOutcome, writtenOf, writtenNumber, writtenValues, bufferBy, bufferOf}
 
 -- ---- numbers and values, as document 01 writes them
@@ -38,12 +38,19 @@ readSays f = (foundNumber f, foundValues f)
 abbrev writeSays : Written → Option ℕ × List ℕ
 writeSays w = (writtenNumber w, writtenValues w)
 
--- A refusal returns only its number.
+-- A refusal returns only its number,
 pub refused-read : (k : ℕ) → readSays (Refused k) ≡ (some k, [])
 refused-read k = refl
 
 pub refused-write : (k : ℕ) → writeSays (NotWritten k) ≡ (some k, [])
 refused-write k = refl
+
+-- an acceptance has none, but values.
+pub accepted-read : readSays (Journal 2 5 6) ≡ (none, 2 ∷ 5 ∷ 6 ∷ [])
+accepted-read = refl
+
+pub accepted-write : writeSays (Bytes 352) ≡ (none, 352 ∷ [])
+accepted-write = refl
 
 -- ---- the first condition met gives the number; without one the call is accepted: every fault at once, then mended one by one
 -- Records of these n, below 256, with the rest 0.
@@ -76,7 +83,7 @@ pub write-mended : map writeSays
 unfolding u32At inOrderTo badRecords writeConditions writeOutcome writtenOf
 write-mended = refl
 
--- ---- the limits: what is still allowed, and the first that is not
+-- ---- each fault, and at a limit what is still allowed and the first that is not
 module _ (s : List ℕ) where
   -- 11 length below 16 or above 65,536;
   pub length-15 : length s ≡ 15 → badLength s ≡ true
@@ -122,7 +129,7 @@ pub misplaced : readOf (journalAt (5 ∷ []) 2 336 5 6) ≡ Refused 12
 unfolding u32At badLength badTrailer readConditions readOutcome readOf
 misplaced = refl
 
--- 13 trailer numbers not those of the records, or not 0 when empty.
+-- 13 trailer numbers not those of the records, or not 0 when empty;
 pub misnumbered : map readOf
     (journalAt (5 ∷ 6 ∷ []) 2 336 6 6
     ∷ journalAt (5 ∷ 6 ∷ []) 2 336 5 5
@@ -133,6 +140,13 @@ pub misnumbered : map readOf
     ≡ Refused 13 ∷ Refused 13 ∷ Refused 13 ∷ Refused 13 ∷ Journal 0 0 0 ∷ []
 unfolding u32At firstOf lastOf inOrderTo part badLength badTrailer badNumbers readConditions readOutcome readOf
 misnumbered = refl
+
+-- 14 a record's n not one more than the last one's, wherever it stands.
+pub disordered : map (λ ns. writtenOf (recordsAt ns) 520)
+    ((5 ∷ 5 ∷ 6 ∷ []) ∷ (5 ∷ 6 ∷ 6 ∷ []) ∷ (5 ∷ 6 ∷ 8 ∷ []) ∷ (7 ∷ 6 ∷ 5 ∷ []) ∷ (5 ∷ 6 ∷ 7 ∷ []) ∷ [])
+    ≡ NotWritten 14 ∷ NotWritten 14 ∷ NotWritten 14 ∷ NotWritten 14 ∷ Bytes 520 ∷ []
+unfolding u32At inOrderTo badRecords writeConditions writeOutcome writtenOf
+disordered = refl
 
 -- 15 above 288 records, whatever else is wrong.
 module _ (r : List ℕ) where

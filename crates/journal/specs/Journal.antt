@@ -97,13 +97,13 @@ foundBy (RefusedBy k) s = Refused k
 unfoldable pub readOf : List ℕ → Found
 readOf s = foundBy (readOutcome s) s
 
--- The number and the values of each answer of a read: an acceptance has no number, a refusal no values.
+-- The number and the values of each answer of a read: count, first n, last n without a number, or only a number.
 abbrev pub foundNumber : Found → Option ℕ
-foundNumber (Journal n a z) = none
+foundNumber (Journal count first last) = none
 foundNumber (Refused k) = some k
 
 abbrev pub foundValues : Found → List ℕ
-foundValues (Journal n a z) = n ∷ a ∷ z ∷ []
+foundValues (Journal count first last) = count ∷ first ∷ last ∷ []
 foundValues (Refused k) = []
 
 -- And the records, as the part of the lent journal that holds them; on a refusal it has length 0.
@@ -143,7 +143,7 @@ writtenBy (RefusedBy k) r = NotWritten k
 unfoldable pub writtenOf : List ℕ → ℕ → Written
 writtenOf r room = writtenBy (writeOutcome r room) r
 
--- The number and the value of each answer of a write.
+-- The number and the values of each answer of a write: the number of bytes written without a refusal's number, or only that.
 abbrev pub writtenNumber : Written → Option ℕ
 writtenNumber (Bytes n) = none
 writtenNumber (NotWritten k) = some k
