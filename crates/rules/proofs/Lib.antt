@@ -11,6 +11,7 @@ pub mod Span
 pub mod Turn
 pub mod OneDirection
 pub mod Replay
+pub mod Fresh
 pub mod Demand
 pub mod Came
 pub mod Limits

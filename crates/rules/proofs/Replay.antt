@@ -84,9 +84,9 @@ module _ (o : Opening) where
   pub first-early : firstOf o ≤ 1051199
   first-early = go (opens o) refl
     where
-      go : (y : Bool) → opens o ≡ y → cond y (o .first) 0 ≤ 1051199
-      go true e = omega (arith, opened-is o e .in-range)
-      go false e = omega arith
+      go : (y : Bool) → opens o ≡ y → firstOf o ≤ 1051199
+      go true e = rw e (omega (arith, opened-is o e .in-range))
+      go false e = rw e (omega arith)
 
   pub start : Replays (openOf o .tracker) []
   unfolding openOf history stateAfter

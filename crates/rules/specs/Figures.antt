@@ -78,8 +78,11 @@ abbrev pub stepAt : ℕ → ℤ → Hundredths
 stepAt d net = stepFor settings d (band settings (cents net))
 
 -- The steps of all eight at net, and the flags of directions 2-7 at a loop sum while the loop is operating.
+abbrev pub allEight : List ℕ
+allEight = 0 ∷ 1 ∷ 2 ∷ 3 ∷ 4 ∷ 5 ∷ 6 ∷ 7 ∷ []
+
 abbrev pub eachStep : ℤ → List Hundredths
-eachStep net = map (λ d. stepAt d net) (0 ∷ 1 ∷ 2 ∷ 3 ∷ 4 ∷ 5 ∷ 6 ∷ 7 ∷ [])
+eachStep net = map (λ d. stepAt d net) allEight
 
 abbrev pub loopFlags : ℤ → List Bool
 loopFlags sum = map (λ d. flagOf true (cents sum) d) (2 ∷ 3 ∷ 4 ∷ 5 ∷ 6 ∷ 7 ∷ [])
