@@ -4,7 +4,6 @@ use mathlib.Core.Path.{_≡_, refl, sym, ap}
 use mathlib.Core.Bool.{Bool, true, false, not, cond, _||_, false≢true}
 use mathlib.Core.List.{List, [], _∷_}
 use mathlib.Core.Logic.{_↔_}
-use mathlib.Core.Option.{none, some}
 use Prim.Native.Nat.{ℕ, _≤_, _<_}
 use borrow.Author.Tests.{eqb-true, eq-eqb, ltb-false, le-ltb, leb-true, le-leb, not-false}
 use lib.Dec.{eqb, ltb}
@@ -13,7 +12,7 @@ use Rattle.rules.specs.declared.Outcome.{Outcome}
 use Rattle.rules.specs.declared.Outcome.the-variants.{Accepted, Refused}
 use Rattle.rules.specs.Interval.{place}
 use Rattle.rules.specs.Record.{number}
-use Rattle.rules.specs.Refusal.{numberOf, Condition, judged, numberMet, isAccepted, each, lastNumber, badFlags, badStatus, badPrice, badFlow, badAhead, intervalConditions, intervalOutcome, shareOk, openConditions, openOutcome}
+use Rattle.rules.specs.Refusal.{numberOf, Condition, _⇒_, judged, numberMet, isAccepted, each, lastNumber, badFlags, badStatus, badPrice, badFlow, badAhead, intervalConditions, intervalOutcome, shareOk, openConditions, openOutcome}
 use Rattle.rules.specs.Tracker.{Opening, opens, accepts}
 use Rattle.rules.proofs.Scan.{both-false, each-at, each-by}
 
@@ -36,11 +35,11 @@ accepted-iff (c ∷ cs) = go (c .met) (accepted-iff cs)
 -- The number of an outcome is that of the first condition met.
 pub number-met : (cs : List Condition) → numberOf (judged cs) ≡ numberMet cs
 number-met [] = refl
-number-met (c ∷ cs) = go (c .met) (number-met cs)
+number-met (c ∷ cs) = go (c .met) (c .number) (number-met cs)
   where
-    go : (m : Bool) → numberOf (judged cs) ≡ numberMet cs → numberOf (cond m (Refused (c .number)) (judged cs)) ≡ cond m (some (c .number)) (numberMet cs)
-    go true rest = refl
-    go false rest = rest
+    go : (m : Bool) (k : ℕ) → numberOf (judged cs) ≡ numberMet cs → numberOf (judged (m ⇒ k ∷ cs)) ≡ numberMet (m ⇒ k ∷ cs)
+    go true k rest = refl
+    go false k rest = rest
 
 is-accepted : (o : Outcome) → isAccepted o ≡ true → o ≡ Accepted
 is-accepted Accepted e = refl
@@ -68,14 +67,14 @@ unfolding intervalOutcome intervalConditions
 accepted-is awaited b e =
     let none = none-met (intervalConditions awaited b) e in
     record {
-      whole = eqb-true (length b) 168 (not-false (eqb (length b) 168) (none .0));
-      in-range = ltb-false lastNumber (number b) (none .1 .0);
-      in-turn = eqb-true (number b) awaited (not-false (eqb (number b) awaited) (none .1 .1 .0));
-      flags = none .1 .1 .1 .0;
-      statuses = none .1 .1 .1 .1 .0;
-      prices = none .1 .1 .1 .1 .1 .0;
-      flows = none .1 .1 .1 .1 .1 .1 .0;
-      ahead = none .1 .1 .1 .1 .1 .1 .1 .0;
+      whole = eqb-true (length b) 168 (not-false (eqb (length b) 168) (search));
+      in-range = ltb-false lastNumber (number b) (search);
+      in-turn = eqb-true (number b) awaited (not-false (eqb (number b) awaited) (search));
+      flags = search;
+      statuses = search;
+      prices = search;
+      flows = search;
+      ahead = search;
     }
 
 pub accepted-by : (awaited : ℕ) (b : List ℕ) → Sound awaited b → accepts awaited b ≡ true
@@ -84,7 +83,7 @@ accepted-by awaited b s =
     let one = ap not (eq-eqb (length b) 168 (s .whole)) in
     let two = le-ltb lastNumber (number b) (s .in-range) in
     let three = ap not (eq-eqb (number b) awaited (s .in-turn)) in
-    none-met-by (intervalConditions awaited b) (one, (two, (three, (s .flags, (s .statuses, (s .prices, (s .flows, (s .ahead, tt))))))))
+    none-met-by (intervalConditions awaited b) (search (one, two, three))
 
 -- What it takes for an opening to be accepted: neither 9 nor 10.
 pub record SoundOpening (o : Opening) : Type 0 where
@@ -106,16 +105,18 @@ module _ (o : Opening) where
   unfolding openOutcome openConditions
   opened-is e =
       let none = none-met conditions e in
-      let nine = both-false late astride (none .0) in
+      let nine = both-false late astride (search) in
       record {
         in-range = ltb-false lastNumber (o .first) (nine .0);
         half-hour = eqb-true (place (o .first)) 0 (not-false (eqb (place (o .first)) 0) (nine .1));
-        shares = λ i l. leb-true (getD (o .shares) i 0) 1000 (each-at (shareOk (o .shares)) 6 (not-false (each 6 (shareOk (o .shares))) (none .1 .0)) i l);
+        shares = λ i l. leb-true (getD (o .shares) i 0) 1000 (each-at (shareOk (o .shares)) 6 (not-false (each 6 (shareOk (o .shares))) (search)) i l);
       }
 
   pub opened-by : SoundOpening o → opens o ≡ true
   unfolding openOutcome openConditions
-  opened-by s = none-met-by conditions (nine, (ap not (each-by (shareOk (o .shares)) 6 (λ i l. le-leb (getD (o .shares) i 0) 1000 (s .shares i l))), tt))
+  opened-by s =
+      let ten = ap not (each-by (shareOk (o .shares)) 6 (λ i l. le-leb (getD (o .shares) i 0) 1000 (s .shares i l))) in
+      none-met-by conditions (search (nine, ten))
     where
       nine : (late || astride) ≡ false
       nine = simp (le-ltb lastNumber (o .first) (s .in-range), eq-eqb (place (o .first)) 0 (s .half-hour))

@@ -1,16 +1,15 @@
 -- Laws that pin residue, loop flag and next from outside: they serve the calls and the claim alike, so that neither would show a wrong one.
--- And some refusals that no vector shows.
 -- Assumes nothing.
 use mathlib.Core.Path.{_≡_, refl, sym, ap, ap₂, _∙_}
 use mathlib.Core.Bool.{Bool, true, false, not, cond, _&&_, Bool·beq, false≢true, and-false}
-use mathlib.Core.List.{List, [], _∷_, map}
+use mathlib.Core.List.{List}
 use mathlib.Core.Logic.{_↔_, _≢_}
 use Prim.Native.Nat.{ℕ, _+_, _*_, _%_, _≤_, _<_}
 use native.Mathlib.Omega.{arith}
 use borrow.Author.Tests.{le-leb, lt-leb, eq-eqb, ne-eqb}
 use lib.Dec.{eqb}
 use lib.IntN.{ℤ, pos, negsuc, _+ℤ_, _-ℤ_, _*ℤ_, +ℤ-idl, +ℤ-idr, zero-*ℤ}
-use lib.ListN.{getD, set, replicate}
+use lib.ListN.{getD}
 use lib.Signed.{_≤ℤ_}
 use Rattle.signed.specs.Range.{negative}
 use Rattle.units.specs.declared.Cents.{Cents}
@@ -21,10 +20,7 @@ use Rattle.rules.specs.declared.Line.{Line}
 use Rattle.rules.specs.Market.{corridorOf, reverse}
 use Rattle.rules.specs.Residue.{grainsOf, rounded, price, line, corridorGrains, corridorFlow, residueOf}
 use Rattle.rules.specs.Interval.{place, flagOf, nextOf}
-use Rattle.rules.specs.Record.{u32At, number, operating, present, aheadPrices, aheadLines, residue, aheadResidue, flag, next}
-use Rattle.rules.specs.declared.Outcome.the-variants.{Accepted, Refused}
-use Rattle.rules.specs.Refusal.{badFlags, intervalConditions, intervalOutcome, rowConditions, rowOutcome}
-use Rattle.rules.specs.Figures.{theRecord}
+use Rattle.rules.specs.Record.{number, operating, present, aheadPrices, aheadLines, residue, aheadResidue, flag, next}
 
 -- ---- the loop flag
 -- 1 for directions 0 and 1, always;
@@ -159,22 +155,3 @@ module _ (prices : List Cents) (shares : List ℕ) (lines : List Line) where
       → flowsBack c ≡ true
       → (residueOf prices shares lines (2 * c) ≡ cents (pos 0)) × (residueOf prices shares lines (2 * c + 1) ≡ rounded (corridorGrains prices shares lines c))
   residue-to-from c f = (residue-is c (2 * c) false true (direction-from-to c) f, residue-is c (2 * c + 1) true true (direction-to-from c) f)
-
--- ---- refused calls, where no vector shows them: the record of P1 with x for its byte i,
-abbrev changed : ℕ → ℕ → List ℕ
-changed i x = set theRecord i x
-
--- 4 each of the flag bits 3-7 set,
-pub high-flags : map (λ x. intervalOutcome 0 (changed 4 x)) (8 ∷ 16 ∷ 32 ∷ 64 ∷ 128 ∷ []) ≡ replicate 5 (Refused 4)
-unfolding u32At badFlags intervalConditions intervalOutcome
-high-flags = refl
-
--- each zero byte not 0;
-pub zero-bytes : map (λ i. intervalOutcome 0 (changed i 1)) (13 ∷ 14 ∷ 15 ∷ []) ≡ replicate 3 (Refused 4)
-unfolding u32At badFlags intervalConditions intervalOutcome
-zero-bytes = refl
-
--- and 17 direction above 7.
-pub above-seven : (rowOutcome 7 ≡ Accepted) × (rowOutcome 8 ≡ Refused 17)
-unfolding rowConditions rowOutcome
-above-seven = (refl, refl)

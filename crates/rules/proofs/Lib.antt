@@ -12,6 +12,7 @@ pub mod Turn
 pub mod OneDirection
 pub mod Replay
 pub mod Fresh
+pub mod Refusals
 pub mod Demand
 pub mod Came
 pub mod Limits

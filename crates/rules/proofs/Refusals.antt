@@ -1,0 +1,126 @@
+-- Laws of the refused calls: each number as document 01 writes it, under its condition and in its order, where the vectors do not show it.
+-- Assumes nothing.
+use mathlib.Core.Path.{_≡_, refl}
+use mathlib.Core.Bool.{false}
+use mathlib.Core.List.{List, [], _∷_, _++_, map, foldr}
+use mathlib.Core.Option.{none, some}
+use Prim.Native.Nat.{ℕ, _+_, _<_}
+use borrow.Author.Tests.{lt-ltb}
+use lib.IntN.{pos}
+use lib.ListN.{set, drop, replicate}
+use Rattle.units.specs.Units.{hundredths}
+use Rattle.rules.specs.declared.Tracker.{Tracker}
+use Rattle.rules.specs.declared.Outcome.{Outcome}
+use Rattle.rules.specs.declared.Outcome.the-variants.{Accepted, Refused}
+use Rattle.rules.specs.Record.{u32At, i32At}
+use Rattle.rules.specs.Refusal.{numberOf, Condition, numberMet, each, badFlags, badStatus, badPrice, badFlow, aheadZero, aheadInside, badAhead, intervalConditions, intervalOutcome, openConditions, openOutcome, rowConditions, rowOutcome}
+use Rattle.rules.specs.Tracker.{openOf, advanced, intervalOf, rowAnswer, run}
+use Rattle.rules.specs.Figures.{halves, theRecord, allEight}
+use Rattle.rules.proofs.Fresh.{zerosBut}
+
+-- ---- the order: the first condition met, as listed, gives the number; without one the call is accepted
+-- The record of P1 with faults, each a byte and its value.
+abbrev spoilt : List (ℕ × ℕ) → List ℕ
+spoilt faults = foldr (λ f b. set b (f .0) (f .1)) theRecord faults
+
+-- The faults 2 to 8: n above 1,051,199, and below that not the awaited 0; a flag bit; a status; a price; a flow; a pre-dispatch price
+-- where pre-dispatch is absent.
+abbrev faults : List (ℕ × ℕ)
+faults = (3, 1) ∷ (0, 1) ∷ (4, 8) ∷ (5, 3) ∷ (19, 127) ∷ (35, 127) ∷ (107, 1) ∷ []
+
+-- The record with all eight faults, one byte too long among them; each next one mends the first fault that is left.
+abbrev mendedInTurn : List (List ℕ)
+mendedInTurn = (spoilt faults ++ (0 ∷ [])) ∷ map (λ k. spoilt (drop k faults)) allEight
+
+pub one-to-eight : map (intervalOutcome 0) mendedInTurn
+    ≡ Refused 1 ∷ Refused 2 ∷ Refused 3 ∷ Refused 4 ∷ Refused 5 ∷ Refused 6 ∷ Refused 7 ∷ Refused 8 ∷ Accepted ∷ []
+unfolding u32At i32At each badFlags badStatus badPrice badFlow aheadZero aheadInside badAhead intervalConditions intervalOutcome
+one-to-eight = refl
+
+-- An opening with both faults, the first n late or within a half-hour; then with the share alone; then with none.
+abbrev opensAt : ℕ → ℕ → Outcome
+opensAt first share = openOutcome first (set halves 5 share)
+
+pub nine-then-ten : opensAt 1051200 1001 ∷ opensAt 1 1001 ∷ opensAt 0 1001 ∷ opensAt 0 1000 ∷ [] ≡ Refused 9 ∷ Refused 9 ∷ Refused 10 ∷ Accepted ∷ []
+unfolding each openConditions openOutcome
+nine-then-ten = refl
+
+-- ---- the numbers, whatever is asked
+abbrev numbers : List Condition → List ℕ
+numbers conditions = map (λ c. c .number) conditions
+
+pub interval-numbers : (awaited : ℕ) (b : List ℕ) → numbers (intervalConditions awaited b) ≡ 1 ∷ 2 ∷ 3 ∷ 4 ∷ 5 ∷ 6 ∷ 7 ∷ 8 ∷ []
+unfolding intervalConditions
+interval-numbers awaited b = refl
+
+pub open-numbers : (first : ℕ) (shares : List ℕ) → numbers (openConditions first shares) ≡ 9 ∷ 10 ∷ []
+unfolding openConditions
+open-numbers first shares = refl
+
+pub row-numbers : (d : ℕ) → numbers (rowConditions d) ≡ 17 ∷ []
+unfolding rowConditions
+row-numbers d = refl
+
+-- A refusal returns its number; an acceptance has none.
+pub number-of-refusal : (k : ℕ) → numberOf (Refused k) ≡ some k
+number-of-refusal k = refl
+
+pub number-of-acceptance : numberOf Accepted ≡ none
+number-of-acceptance = refl
+
+pub number-met-in-turn : map (λ b. numberMet (intervalConditions 0 b)) mendedInTurn
+    ≡ some 1 ∷ some 2 ∷ some 3 ∷ some 4 ∷ some 5 ∷ some 6 ∷ some 7 ∷ some 8 ∷ none ∷ []
+unfolding u32At i32At each badFlags badStatus badPrice badFlow aheadZero aheadInside badAhead intervalConditions
+number-met-in-turn = refl
+
+-- ---- the conditions: the record of P1 with x for its byte i,
+abbrev changed : ℕ → ℕ → List ℕ
+changed i x = set theRecord i x
+
+-- 3 n not the awaited number (the opening's first n, then one more than the latest accepted n): the call itself, before and after one interval,
+abbrev answersAfter : List (List ℕ) → List Outcome
+answersAfter calls = map (λ n. intervalOf (run (record { first = 0; shares = halves }) calls) (changed 0 n) .outcome) (0 ∷ 1 ∷ 2 ∷ [])
+
+pub awaited-in-turn : (answersAfter [] ≡ Accepted ∷ Refused 3 ∷ Refused 3 ∷ []) × (answersAfter (theRecord ∷ []) ≡ Refused 3 ∷ Accepted ∷ Refused 3 ∷ [])
+unfolding u32At i32At each badFlags badStatus badPrice badFlow aheadZero aheadInside badAhead intervalConditions intervalOutcome openConditions openOutcome openOf advanced intervalOf run
+awaited-in-turn = (refl, refl)
+
+-- 4 each of the flag bits 3-7 set,
+pub high-flags : map (λ x. intervalOutcome 0 (changed 4 x)) (8 ∷ 16 ∷ 32 ∷ 64 ∷ 128 ∷ []) ≡ replicate 5 (Refused 4)
+unfolding u32At badFlags intervalConditions intervalOutcome
+high-flags = refl
+
+-- bit 2 with q not 5,
+pub ahead-at-five : map (λ n. intervalOutcome n (set (changed 0 n) 4 4)) (0 ∷ 1 ∷ 2 ∷ 3 ∷ 4 ∷ 5 ∷ []) ≡ replicate 5 (Refused 4) ++ (Accepted ∷ [])
+unfolding u32At i32At each badFlags badStatus badPrice badFlow aheadZero aheadInside badAhead intervalConditions intervalOutcome
+ahead-at-five = refl
+
+-- each zero byte not 0;
+pub zero-bytes : map (λ i. intervalOutcome 0 (changed i 1)) (13 ∷ 14 ∷ 15 ∷ []) ≡ replicate 3 (Refused 4)
+unfolding u32At badFlags intervalConditions intervalOutcome
+zero-bytes = refl
+
+-- 5 status not 0, 1, 2, 4, 5, 6, in each of the eight bytes (beside a price outside);
+abbrev statusIs : ℕ → List Outcome
+statusIs x = map (λ d. intervalOutcome 0 (spoilt ((5 + d, x) ∷ (19, 127) ∷ []))) allEight
+
+pub status-refused : (statusIs 3 ≡ replicate 8 (Refused 5)) × (statusIs 7 ≡ replicate 8 (Refused 5)) × (statusIs 8 ≡ replicate 8 (Refused 5))
+unfolding u32At i32At each badFlags badStatus badPrice intervalConditions intervalOutcome
+status-refused = (refl, refl, refl)
+
+-- 10 a share above 1000, of each of the six;
+abbrev shareIs : ℕ → List Outcome
+shareIs k = map (λ i. openOutcome 0 (set halves i k)) (0 ∷ 1 ∷ 2 ∷ 3 ∷ 4 ∷ 5 ∷ [])
+
+pub above-1000 : (shareIs 1000 ≡ replicate 6 Accepted) × (shareIs 1001 ≡ replicate 6 (Refused 10))
+unfolding each openConditions openOutcome
+above-1000 = (refl, refl)
+
+-- and 17 direction above 7: the row is all zeros, period none.
+pub above-seven : (rowOutcome 7 ≡ Accepted) × (rowOutcome 8 ≡ Refused 17)
+unfolding rowConditions rowOutcome
+above-seven = (refl, refl)
+
+pub beside-seventeen : (t : Tracker) (d : ℕ) → 7 < d → rowAnswer t d ≡ record { outcome = Refused 17; row = zerosBut 0 0 false (hundredths (pos 0)) }
+unfolding rowConditions rowOutcome rowAnswer
+beside-seventeen t d above = rw (lt-ltb 7 d above) refl
