@@ -4,6 +4,7 @@ use mathlib.Core.Path.{_≡_, refl, ap}
 use mathlib.Core.Bool.{Bool, true, false, not, cond}
 use mathlib.Core.List.{List, [], _∷_}
 use Prim.Native.Nat.{ℕ, _<_}
+use native.Mathlib.Omega.{arith}
 use lib.Dec.{T}
 use lib.IntN.{ℤ}
 use Rattle.units.specs.Units.{cents}
@@ -11,8 +12,8 @@ use Rattle.rules.specs.declared.Event.{Event}
 use Rattle.rules.specs.declared.Direction.{Direction}
 use Rattle.rules.specs.declared.Tracker.{Tracker}
 use Rattle.rules.specs.declared.Row.{Row}
-use Rattle.rules.specs.Interval.{Settings, settings, stepOf}
-use Rattle.rules.specs.History.{GotThereWithin, stateAfter}
+use Rattle.rules.specs.Interval.{settings, stepOf}
+use Rattle.rules.specs.History.{stateAfter}
 use Rattle.rules.specs.Record.{eventOf}
 use Rattle.rules.specs.Tracker.{Opening, firstOf, accepts, advanced, intervalOf, after, row, rowOf, run}
 use Rattle.rules.specs.Claim.{awaitedAfter, accepted, history, workedRow, DirectionClaim, ClaimOf, Claim}
@@ -28,9 +29,6 @@ refused t b n = go (accepts (t .awaited) b) n
     go : (y : Bool) → T (not y) → cond y (advanced t b) t ≡ t
     go true n = absurd n
     go false n = refl
-
-within : (set : Settings) (es : List Event) → (i : ℕ) × (i < 12) × Got set es i → GotThereWithin 12 set es
-within set es w = record { ago = w .0; recent = w .1; accepted = w .2 .0; got = w .2 .1; unreviewed = w .2 .2 }
 
 abbrev rowWith : ℕ → ℕ → Direction → Row
 rowWith n d s = row n d (s .residue) (s .next) (s .blocked) (s .flag) s
@@ -50,15 +48,18 @@ module _ (o : Opening) (t : Tracker) (bs : List (List ℕ)) (r : Replays o t bs)
   direction d lt =
       let es = history o d bs in
       let turn = r .turns d in
+      let recent = recent-of (Got settings es) (nextNumber (firstOf o) es) (stateAfter settings d es .period) (span-of settings d tt (firstOf o) es turn) in
       rw (← next-is o d bs, row-is d lt) (record {
         is-worked = worked o d bs;
         sum = ap (λ (z : ℤ). cents z) (sum-of settings d (firstOf o) es turn .total);
         clamped = inside-of settings d tt (firstOf o) es turn;
-        caused = λ t. within settings es (recent-of (Got settings es) (nextNumber (firstOf o) es) (stateAfter settings d es .period) (span-of settings d tt (firstOf o) es turn) t);
+        caused = λ inside.
+            let w = recent inside in
+            record { ago = w .0; recent = omega (arith, w .1, w .2 .0); accepted = w .2 .0; got = w .2 .1; unreviewed = w .2 .2 };
       })
 
   pub claim-of : ClaimOf o bs t
-  claim-of = record { awaits = r .awaits; eight = r .eight; hands-on = λ b n. refused t b (rw (r .awaits) n); each = direction }
+  claim-of = record { awaits = r .awaits; eight = r .eight; hands-on = λ b n. refused t b (rw (r .awaits) n); each = λ d lt. direction d (omega arith) }
 
 pub demand3 : (o : Opening) (calls : List (List ℕ)) → Claim o calls (run o calls)
 demand3 o calls = claim-of o (run o calls) (accepted o calls) (replays o calls)
