@@ -12,7 +12,7 @@ use Rattle.rules.specs.declared.Outcome.{Outcome}
 use Rattle.rules.specs.declared.Outcome.the-variants.{Accepted, Refused}
 use Rattle.rules.specs.Interval.{place}
 use Rattle.rules.specs.Record.{number}
-use Rattle.rules.specs.Refusal.{numberOf, Condition, _⇒_, judged, numberMet, isAccepted, each, lastNumber, badFlags, badStatus, badPrice, badFlow, badAhead, intervalConditions, intervalOutcome, shareOk, openConditions, openOutcome}
+use Rattle.rules.specs.Refusal.{numberOf, Condition, judged, numberMet, isAccepted, each, lastNumber, badFlags, badStatus, badPrice, badFlow, badAhead, intervalConditions, intervalOutcome, shareOk, openConditions, openOutcome}
 use Rattle.rules.specs.Tracker.{Opening, opens, accepts}
 use Rattle.rules.proofs.Scan.{both-false, each-at, each-by}
 
@@ -37,7 +37,9 @@ pub number-met : (cs : List Condition) → numberOf (judged cs) ≡ numberMet cs
 number-met [] = refl
 number-met (c ∷ cs) = go (c .met) (c .number) (number-met cs)
   where
-    go : (m : Bool) (k : ℕ) → numberOf (judged cs) ≡ numberMet cs → numberOf (judged (m ⇒ k ∷ cs)) ≡ numberMet (m ⇒ k ∷ cs)
+    go : (m : Bool) (k : ℕ)
+        → numberOf (judged cs) ≡ numberMet cs
+        → numberOf (judged (record { met = m; number = k } ∷ cs)) ≡ numberMet (record { met = m; number = k } ∷ cs)
     go true k rest = refl
     go false k rest = rest
 

@@ -23,10 +23,10 @@ use Rattle.rules.proofs.Fresh.{zerosBut}
 abbrev spoilt : List (ℕ × ℕ) → List ℕ
 spoilt faults = foldr (λ f b. set b (f .0) (f .1)) theRecord faults
 
--- The faults 2 to 8: n above 1,051,199, and below that not the awaited 0; a flag bit; a status; a price; a flow; a pre-dispatch price
--- where pre-dispatch is absent.
+-- The faults 2 to 8: n above 1,051,199; n below that and not the awaited 0; a zero byte; a status; a price; a flow; a pre-dispatch
+-- price where pre-dispatch is absent.
 abbrev faults : List (ℕ × ℕ)
-faults = (3, 1) ∷ (0, 1) ∷ (4, 8) ∷ (5, 3) ∷ (19, 127) ∷ (35, 127) ∷ (107, 1) ∷ []
+faults = (3, 1) ∷ (0, 1) ∷ (14, 1) ∷ (5, 3) ∷ (19, 127) ∷ (35, 127) ∷ (107, 1) ∷ []
 
 -- The record with all eight faults, one byte too long among them; each next one mends the first fault that is left.
 abbrev mendedInTurn : List (List ℕ)
@@ -39,10 +39,10 @@ one-to-eight = refl
 
 -- An opening with both faults, the first n late or within a half-hour; then with the share alone; then with none.
 abbrev opensAt : ℕ → ℕ → Outcome
-opensAt first share = openOutcome first (set halves 5 share)
+opensAt first share = openOf (record { first = first; shares = set halves 5 share }) .outcome
 
 pub nine-then-ten : opensAt 1051200 1001 ∷ opensAt 1 1001 ∷ opensAt 0 1001 ∷ opensAt 0 1000 ∷ [] ≡ Refused 9 ∷ Refused 9 ∷ Refused 10 ∷ Accepted ∷ []
-unfolding each openConditions openOutcome
+unfolding each openConditions openOutcome openOf
 nine-then-ten = refl
 
 -- ---- the numbers, whatever is asked
@@ -73,34 +73,31 @@ pub number-met-in-turn : map (λ b. numberMet (intervalConditions 0 b)) mendedIn
 unfolding u32At i32At each badFlags badStatus badPrice badFlow aheadZero aheadInside badAhead intervalConditions
 number-met-in-turn = refl
 
--- ---- the conditions: the record of P1 with x for its byte i,
-abbrev changed : ℕ → ℕ → List ℕ
-changed i x = set theRecord i x
-
--- 3 n not the awaited number (the opening's first n, then one more than the latest accepted n): the call itself, before and after one interval,
+-- ---- the conditions (4 and 5 where the next one is met too)
+-- 3 n not the awaited number (the opening's first n, then one more than the latest accepted n): what the call answers to n = 0, 1, 2;
 abbrev answersAfter : List (List ℕ) → List Outcome
-answersAfter calls = map (λ n. intervalOf (run (record { first = 0; shares = halves }) calls) (changed 0 n) .outcome) (0 ∷ 1 ∷ 2 ∷ [])
+answersAfter calls = map (λ n. intervalOf (run (record { first = 0; shares = halves }) calls) (spoilt ((0, n) ∷ [])) .outcome) (0 ∷ 1 ∷ 2 ∷ [])
 
 pub awaited-in-turn : (answersAfter [] ≡ Accepted ∷ Refused 3 ∷ Refused 3 ∷ []) × (answersAfter (theRecord ∷ []) ≡ Refused 3 ∷ Accepted ∷ Refused 3 ∷ [])
 unfolding u32At i32At each badFlags badStatus badPrice badFlow aheadZero aheadInside badAhead intervalConditions intervalOutcome openConditions openOutcome openOf advanced intervalOf run
 awaited-in-turn = (refl, refl)
 
 -- 4 each of the flag bits 3-7 set,
-pub high-flags : map (λ x. intervalOutcome 0 (changed 4 x)) (8 ∷ 16 ∷ 32 ∷ 64 ∷ 128 ∷ []) ≡ replicate 5 (Refused 4)
-unfolding u32At badFlags intervalConditions intervalOutcome
+pub high-flags : map (λ x. intervalOutcome 0 (spoilt ((4, x) ∷ (5, 3) ∷ []))) (8 ∷ 16 ∷ 32 ∷ 64 ∷ 128 ∷ []) ≡ replicate 5 (Refused 4)
+unfolding u32At each badFlags badStatus intervalConditions intervalOutcome
 high-flags = refl
 
 -- bit 2 with q not 5,
-pub ahead-at-five : map (λ n. intervalOutcome n (set (changed 0 n) 4 4)) (0 ∷ 1 ∷ 2 ∷ 3 ∷ 4 ∷ 5 ∷ []) ≡ replicate 5 (Refused 4) ++ (Accepted ∷ [])
+pub ahead-at-five : map (λ n. intervalOutcome n (spoilt ((0, n) ∷ (4, 4) ∷ []))) (0 ∷ 1 ∷ 2 ∷ 3 ∷ 4 ∷ 5 ∷ []) ≡ replicate 5 (Refused 4) ++ (Accepted ∷ [])
 unfolding u32At i32At each badFlags badStatus badPrice badFlow aheadZero aheadInside badAhead intervalConditions intervalOutcome
 ahead-at-five = refl
 
 -- each zero byte not 0;
-pub zero-bytes : map (λ i. intervalOutcome 0 (changed i 1)) (13 ∷ 14 ∷ 15 ∷ []) ≡ replicate 3 (Refused 4)
-unfolding u32At badFlags intervalConditions intervalOutcome
+pub zero-bytes : map (λ i. intervalOutcome 0 (spoilt ((i, 1) ∷ (5, 3) ∷ []))) (13 ∷ 14 ∷ 15 ∷ []) ≡ replicate 3 (Refused 4)
+unfolding u32At each badFlags badStatus intervalConditions intervalOutcome
 zero-bytes = refl
 
--- 5 status not 0, 1, 2, 4, 5, 6, in each of the eight bytes (beside a price outside);
+-- 5 status not 0, 1, 2, 4, 5, 6, in each of the eight bytes;
 abbrev statusIs : ℕ → List Outcome
 statusIs x = map (λ d. intervalOutcome 0 (spoilt ((5 + d, x) ∷ (19, 127) ∷ []))) allEight
 
