@@ -105,6 +105,10 @@ pub status-refused : (statusIs 3 ≡ replicate 8 (Refused 5)) × (statusIs 7 ≡
 unfolding u32At i32At each badFlags badStatus badPrice intervalConditions intervalOutcome
 status-refused = (refl, refl, refl)
 
+pub status-taken : map statusIs (0 ∷ 1 ∷ 2 ∷ 4 ∷ 5 ∷ 6 ∷ []) ≡ replicate 6 (replicate 8 (Refused 6))
+unfolding u32At i32At each badFlags badStatus badPrice intervalConditions intervalOutcome
+status-taken = refl
+
 -- 10 a share above 1000, of each of the six;
 abbrev shareIs : ℕ → List Outcome
 shareIs k = map (λ i. openOutcome 0 (set halves i k)) (0 ∷ 1 ∷ 2 ∷ 3 ∷ 4 ∷ 5 ∷ [])
