@@ -76,8 +76,8 @@ module _ (o : Opening) where
 
 -- ---- rows
 -- A row of zeros, period none, but for these four.
-abbrev pub zerosBut : ℕ → ℕ → Bool → Hundredths → Row
-zerosBut n d flag clamp = record {
+abbrev pub rowOfZeros : ℕ → ℕ → Bool → Hundredths → Row
+rowOfZeros n d flag clamp = record {
   n = n;
   direction = d;
   residue = cents (pos 0);
@@ -97,7 +97,7 @@ zerosBut n d flag clamp = record {
 
 -- A fresh row has n = first, its direction, the rest 0 or none, flag 1, clamp swamped.
 abbrev freshRow : ℕ → ℕ → Row
-freshRow first d = zerosBut first d true (hundredths (pos 2000000))
+freshRow first d = rowOfZeros first d true (hundredths (pos 2000000))
 
 abbrev answered : Row → RowAnswer
 answered r = record { outcome = Accepted; row = r }

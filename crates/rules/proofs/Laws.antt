@@ -20,7 +20,7 @@ use Rattle.rules.specs.declared.Line.{Line}
 use Rattle.rules.specs.Market.{corridorOf, reverse}
 use Rattle.rules.specs.Residue.{grainsOf, rounded, price, line, corridorGrains, corridorFlow, residueOf}
 use Rattle.rules.specs.Interval.{place, flagOf, nextOf}
-use Rattle.rules.specs.Record.{number, operating, present, aheadPrices, aheadLines, residue, aheadResidue, flag, next}
+use Rattle.rules.specs.Record.{number, operating, present, prices, lines, aheadPrices, aheadLines, residue, aheadResidue, flag, next}
 
 -- ---- the loop flag
 -- 1 for directions 0 and 1, always;
@@ -53,6 +53,10 @@ module _ (shares b : List ℕ) where
       go true true = (λ e. absurd (false≢true (sym e)), λ h. absurd (false≢true (sym (h .1))))
       go true false = (λ _. (refl, refl), λ _. refl)
       go false low = (λ e. absurd (false≢true (sym e)), λ h. absurd (false≢true (h .0)))
+
+-- ---- r of a record: by all six shares of the opening
+pub record-residue : (shares b : List ℕ) (d : ℕ) → residue shares b d ≡ residueOf (prices b) shares (lines b) d
+record-residue shares b d = refl
 
 -- ---- next
 lower-of-zero-low : (z : ℤ) → lowerOfZero (cents z) .0 ≤ℤ pos 0

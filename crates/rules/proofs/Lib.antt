@@ -15,6 +15,6 @@ pub mod Fresh
 pub mod Refusals
 pub mod Demand
 pub mod Came
-pub mod Consequences
+pub mod ByClaim
 pub mod Limits
 pub mod Longer

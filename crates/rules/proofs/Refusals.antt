@@ -13,15 +13,15 @@ use Rattle.rules.specs.declared.Tracker.{Tracker}
 use Rattle.rules.specs.declared.Outcome.{Outcome}
 use Rattle.rules.specs.declared.Outcome.the-variants.{Accepted, Refused}
 use Rattle.rules.specs.Record.{u32At, i32At}
-use Rattle.rules.specs.Refusal.{numberOf, Condition, numberMet, each, badFlags, badStatus, badPrice, badFlow, aheadZero, aheadInside, badAhead, intervalConditions, intervalOutcome, openConditions, openOutcome, rowConditions, rowOutcome}
+use Rattle.rules.specs.Refusal.{numberOf, Condition, each, badFlags, badStatus, badPrice, badFlow, aheadZero, aheadInside, badAhead, intervalConditions, intervalOutcome, openConditions, openOutcome, rowConditions, rowOutcome}
 use Rattle.rules.specs.Tracker.{openOf, advanced, intervalOf, rowAnswer, run}
 use Rattle.rules.specs.Figures.{halves, theRecord, allEight}
-use Rattle.rules.proofs.Fresh.{zerosBut}
+use Rattle.rules.proofs.Fresh.{rowOfZeros}
 
 -- ---- the order: the first condition met, as listed, gives the number; without one the call is accepted
 -- The record of P1 with faults, each a byte and its value.
-abbrev spoilt : List (ℕ × ℕ) → List ℕ
-spoilt faults = foldr (λ f b. set b (f .0) (f .1)) theRecord faults
+abbrev withFaults : List (ℕ × ℕ) → List ℕ
+withFaults faults = foldr (λ f b. set b (f .0) (f .1)) theRecord faults
 
 -- The faults 2 to 8: n above 1,051,199; n below that and not the awaited 0; a zero byte; a status; a price; a flow; a pre-dispatch
 -- price where pre-dispatch is absent.
@@ -30,7 +30,7 @@ faults = (3, 1) ∷ (0, 1) ∷ (14, 1) ∷ (5, 3) ∷ (19, 127) ∷ (35, 127) �
 
 -- The record with all eight faults, one byte too long among them; each next one mends the first fault that is left.
 abbrev mendedInTurn : List (List ℕ)
-mendedInTurn = (spoilt faults ++ (0 ∷ [])) ∷ map (λ k. spoilt (drop k faults)) allEight
+mendedInTurn = (withFaults faults ++ (0 ∷ [])) ∷ map (λ k. withFaults (drop k faults)) (0 ∷ 1 ∷ 2 ∷ 3 ∷ 4 ∷ 5 ∷ 6 ∷ 7 ∷ [])
 
 pub one-to-eight : map (intervalOutcome 0) mendedInTurn
     ≡ Refused 1 ∷ Refused 2 ∷ Refused 3 ∷ Refused 4 ∷ Refused 5 ∷ Refused 6 ∷ Refused 7 ∷ Refused 8 ∷ Accepted ∷ []
@@ -45,8 +45,8 @@ pub nine-then-ten : opensAt 1051200 1001 ∷ opensAt 1 1001 ∷ opensAt 0 1001 �
 unfolding each openConditions openOutcome openOf
 nine-then-ten = refl
 
--- ---- the numbers, whatever is asked
-abbrev numbers : List Condition → List ℕ
+-- ---- the numbers of the conditions, whatever is asked
+abbrev pub numbers : List Condition → List ℕ
 numbers conditions = map (λ c. c .number) conditions
 
 pub interval-numbers : (awaited : ℕ) (b : List ℕ) → numbers (intervalConditions awaited b) ≡ 1 ∷ 2 ∷ 3 ∷ 4 ∷ 5 ∷ 6 ∷ 7 ∷ 8 ∷ []
@@ -68,38 +68,33 @@ number-of-refusal k = refl
 pub number-of-acceptance : numberOf Accepted ≡ none
 number-of-acceptance = refl
 
-pub number-met-in-turn : map (λ b. numberMet (intervalConditions 0 b)) mendedInTurn
-    ≡ some 1 ∷ some 2 ∷ some 3 ∷ some 4 ∷ some 5 ∷ some 6 ∷ some 7 ∷ some 8 ∷ none ∷ []
-unfolding u32At i32At each badFlags badStatus badPrice badFlow aheadZero aheadInside badAhead intervalConditions
-number-met-in-turn = refl
-
--- ---- the conditions (4 and 5 where the next one is met too)
--- 3 n not the awaited number (the opening's first n, then one more than the latest accepted n): what the call answers to n = 0, 1, 2;
+-- ---- the conditions, one by one; where 4 or 5 is tried, the next condition is met too
+-- Number 3, n not the awaited number (the opening's first n, then one more than the latest accepted n): what the call answers to n = 0, 1, 2.
 abbrev answersAfter : List (List ℕ) → List Outcome
-answersAfter calls = map (λ n. intervalOf (run (record { first = 0; shares = halves }) calls) (spoilt ((0, n) ∷ [])) .outcome) (0 ∷ 1 ∷ 2 ∷ [])
+answersAfter calls = map (λ n. intervalOf (run (record { first = 0; shares = halves }) calls) (withFaults ((0, n) ∷ [])) .outcome) (0 ∷ 1 ∷ 2 ∷ [])
 
 pub awaited-in-turn : (answersAfter [] ≡ Accepted ∷ Refused 3 ∷ Refused 3 ∷ []) × (answersAfter (theRecord ∷ []) ≡ Refused 3 ∷ Accepted ∷ Refused 3 ∷ [])
 unfolding u32At i32At each badFlags badStatus badPrice badFlow aheadZero aheadInside badAhead intervalConditions intervalOutcome openConditions openOutcome openOf advanced intervalOf run
 awaited-in-turn = (refl, refl)
 
--- 4 each of the flag bits 3-7 set,
-pub high-flags : map (λ x. intervalOutcome 0 (spoilt ((4, x) ∷ (5, 3) ∷ []))) (8 ∷ 16 ∷ 32 ∷ 64 ∷ 128 ∷ []) ≡ replicate 5 (Refused 4)
+-- Number 4, each of the flag bits 3-7 set.
+pub high-flags : map (λ x. intervalOutcome 0 (withFaults ((4, x) ∷ (5, 3) ∷ []))) (8 ∷ 16 ∷ 32 ∷ 64 ∷ 128 ∷ []) ≡ replicate 5 (Refused 4)
 unfolding u32At each badFlags badStatus intervalConditions intervalOutcome
 high-flags = refl
 
--- bit 2 with q not 5,
-pub ahead-at-five : map (λ n. intervalOutcome n (spoilt ((0, n) ∷ (4, 4) ∷ []))) (0 ∷ 1 ∷ 2 ∷ 3 ∷ 4 ∷ 5 ∷ []) ≡ replicate 5 (Refused 4) ++ (Accepted ∷ [])
+-- Number 4, bit 2 with q not 5; at q = 5 it is accepted.
+pub ahead-at-five : map (λ n. intervalOutcome n (withFaults ((0, n) ∷ (4, 4) ∷ []))) (0 ∷ 1 ∷ 2 ∷ 3 ∷ 4 ∷ 5 ∷ []) ≡ replicate 5 (Refused 4) ++ (Accepted ∷ [])
 unfolding u32At i32At each badFlags badStatus badPrice badFlow aheadZero aheadInside badAhead intervalConditions intervalOutcome
 ahead-at-five = refl
 
--- each zero byte not 0;
-pub zero-bytes : map (λ i. intervalOutcome 0 (spoilt ((i, 1) ∷ (5, 3) ∷ []))) (13 ∷ 14 ∷ 15 ∷ []) ≡ replicate 3 (Refused 4)
+-- Number 4, each zero byte not 0.
+pub zero-bytes : map (λ i. intervalOutcome 0 (withFaults ((i, 1) ∷ (5, 3) ∷ []))) (13 ∷ 14 ∷ 15 ∷ []) ≡ replicate 3 (Refused 4)
 unfolding u32At each badFlags badStatus intervalConditions intervalOutcome
 zero-bytes = refl
 
--- 5 status not 0, 1, 2, 4, 5, 6, in each of the eight bytes;
+-- Number 5, status not 0, 1, 2, 4, 5, 6, in each of the eight bytes.
 abbrev statusIs : ℕ → List Outcome
-statusIs x = map (λ d. intervalOutcome 0 (spoilt ((5 + d, x) ∷ (19, 127) ∷ []))) allEight
+statusIs x = map (λ d. intervalOutcome 0 (withFaults ((5 + d, x) ∷ (19, 127) ∷ []))) allEight
 
 pub status-refused : (statusIs 3 ≡ replicate 8 (Refused 5)) × (statusIs 7 ≡ replicate 8 (Refused 5)) × (statusIs 8 ≡ replicate 8 (Refused 5))
 unfolding u32At i32At each badFlags badStatus badPrice intervalConditions intervalOutcome
@@ -109,7 +104,7 @@ pub status-taken : map statusIs (0 ∷ 1 ∷ 2 ∷ 4 ∷ 5 ∷ 6 ∷ []) ≡ rep
 unfolding u32At i32At each badFlags badStatus badPrice intervalConditions intervalOutcome
 status-taken = refl
 
--- 10 a share above 1000, of each of the six;
+-- Number 10, a share above 1000, of each of the six.
 abbrev shareIs : ℕ → List Outcome
 shareIs k = map (λ i. openOutcome 0 (set halves i k)) (0 ∷ 1 ∷ 2 ∷ 3 ∷ 4 ∷ 5 ∷ [])
 
@@ -117,11 +112,11 @@ pub above-1000 : (shareIs 1000 ≡ replicate 6 Accepted) × (shareIs 1001 ≡ re
 unfolding each openConditions openOutcome
 above-1000 = (refl, refl)
 
--- and 17 direction above 7: the row is all zeros, period none.
+-- Number 17, direction above 7: the row is all zeros, period none.
 pub above-seven : (rowOutcome 7 ≡ Accepted) × (rowOutcome 8 ≡ Refused 17)
 unfolding rowConditions rowOutcome
 above-seven = (refl, refl)
 
-pub beside-seventeen : (t : Tracker) (d : ℕ) → 7 < d → rowAnswer t d ≡ record { outcome = Refused 17; row = zerosBut 0 0 false (hundredths (pos 0)) }
+pub beside-seventeen : (t : Tracker) (d : ℕ) → 7 < d → rowAnswer t d ≡ record { outcome = Refused 17; row = rowOfZeros 0 0 false (hundredths (pos 0)) }
 unfolding rowConditions rowOutcome rowAnswer
 beside-seventeen t d above = rw (lt-ltb 7 d above) refl

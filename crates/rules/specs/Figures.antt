@@ -77,10 +77,11 @@ until11 = at 11 (minus 10000000) ∷ at 10 (pos 0) ∷ at 9 (pos 0) ∷ at 8 (po
 abbrev pub stepAt : ℕ → ℤ → Hundredths
 stepAt d net = stepFor settings d (band settings (cents net))
 
--- The steps of all eight at net, and the flags of directions 2-7 at a loop sum while the loop is operating.
+-- The eight directions.
 abbrev pub allEight : List ℕ
 allEight = 0 ∷ 1 ∷ 2 ∷ 3 ∷ 4 ∷ 5 ∷ 6 ∷ 7 ∷ []
 
+-- The steps of all eight at net, and the flags of directions 2-7 at a loop sum while the loop is operating.
 abbrev pub eachStep : ℤ → List Hundredths
 eachStep net = map (λ d. stepAt d net) allEight
 
