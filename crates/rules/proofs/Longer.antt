@@ -15,18 +15,18 @@ module _ (o : Opening) (calls : List (List ℕ)) (b : List ℕ) where
   abbrev longer : List (List ℕ)
   longer = calls ++ (b ∷ [])
 
-  heard : accepted o longer ≡ hear o (accepted o calls) b
+  accepted-on : accepted o longer ≡ hear o (accepted o calls) b
   unfolding accepted
-  heard = foldl-append (hear o) [] calls (b ∷ [])
+  accepted-on = foldl-append (hear o) [] calls (b ∷ [])
 
   pub refused-longer : {k : ℕ} → judged (intervalConditions (awaitedFrom o calls) b) ≡ Refused k → accepted o longer ≡ accepted o calls
   unfolding hear intervalOutcome
-  refused-longer e = heard ∙ rw e
+  refused-longer e = accepted-on ∙ rw e
 
   module _ (ok : judged (intervalConditions (awaitedFrom o calls) b) ≡ Accepted) where
     pub accepted-longer : accepted o longer ≡ b ∷ accepted o calls
     unfolding hear intervalOutcome
-    accepted-longer = heard ∙ rw ok
+    accepted-longer = accepted-on ∙ rw ok
 
     in-turn : number b ≡ awaitedFrom o calls
     unfolding intervalOutcome

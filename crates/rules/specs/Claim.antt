@@ -37,7 +37,7 @@ unfoldable pub workedRow : ℕ → ℕ → List Event → Row
 workedRow first d [] = row first d (cents (pos 0)) (cents (pos 0)) false true fresh
 workedRow first d (e ∷ es) = row (e .n) d (e .residue) (e .next) (e .blocked) (e .flag) (stateAfter settings d (e ∷ es))
 
--- The same from an opening and any list of calls: the awaited number, and the row of direction d.
+-- From an opening and any list of calls, refused ones among them: the awaited number, and the row of direction d that document 01 works out.
 abbrev pub awaitedFrom : Opening → List (List ℕ) → ℕ
 awaitedFrom o calls = awaitedAfter o (accepted o calls)
 

@@ -1,13 +1,17 @@
 -- Every caller meets what the calls ask: an opening gives a tracker that came from an opening and calls, and a call keeps it. With them go the
 -- laws that callers need: of conditions and tests, of one call more at the end of a list, and of the rows that the calls return.
 -- Assumes nothing.
-use mathlib.Core.Bool.{Bool, true, false, cond}
+use mathlib.Core.Bool.{Bool, true, false, not, cond}
 use mathlib.Core.List.{List, [], _∷_, _++_}
-use mathlib.Core.Path.{_≡_, refl, sym, ap, _∙_}
+use mathlib.Core.Path.{_≡_, refl, sym, ap, subst, _∙_}
 use Prim.Native.Nat.{ℕ, _<_}
 use native.Mathlib.Omega.{arith}
 use borrow.Author.Tests.{le-ltb, ltb-false}
-use lib.Dec.{ltb}
+use lib.Dec.{T, ltb}
+use lib.IntN.{_+ℤ_}
+use lib.Signed.{leZ}
+use Rattle.signed.specs.Range.{minus}
+use Rattle.rules.specs.declared.Event.{Event}
 use Rattle.rules.specs.declared.Tracker.{Tracker}
 use Rattle.rules.specs.declared.Row.{Row}
 use Rattle.rules.specs.declared.Answer.{Answer}
@@ -16,13 +20,16 @@ use Rattle.rules.specs.declared.Outcome.the-variants.{Accepted, Refused}
 use Rattle.rules.specs.Bounds.{RowBounds}
 use Rattle.rules.specs.Refusal.{numberOf, isAccepted, judged, openConditions, openOutcome, intervalConditions, intervalOutcome, rowConditions, rowOutcome}
 use Rattle.rules.specs.Tracker.{Opening, firstOf, openOf, intervalOf, rowOf, noRow, rowAnswer, after, run}
-use Rattle.rules.specs.Claim.{accepted, history, awaitedFrom}
+use Rattle.rules.specs.History.{sumSince, estimate, underReview, liesIn}
+use Rattle.rules.specs.Claim.{accepted, history, awaitedFrom, workedFrom}
 use Rattle.rules.proofs.Came as rules
 use Rattle.rules.proofs.Limits.{row-bounds}
 pub use Rattle.rules.proofs.Scan.{both-false}
 pub use Rattle.rules.proofs.Accepted.{accepted-iff, number-met}
+pub use Rattle.rules.proofs.ByClaim.{NoCause, not-without-cause, clamped-at, amount-is}
+pub use Rattle.rules.proofs.Refusals.{numbers}
 pub use Rattle.rules.proofs.Longer.{refused-longer, accepted-longer, awaits-one-more, shows-awaited, worked-direction}
-use Rattle.tracker.specs.Promise.{Came, OpenPromise, NextCall, IntervalPromise, RowPromise}
+use Rattle.tracker.specs.Promise.{Came, OpenPromise, CallAfter, IntervalPromise, RowPromise}
 
 pub came-open : (o : Opening) → Came (openOf o .tracker)
 came-open = rules.came-open
@@ -46,9 +53,9 @@ module _ (t : Tracker) (b : List ℕ) (o : Opening) (calls : List (List ℕ)) (q
   run-longer : after t b ≡ run o (calls ++ (b ∷ []))
   run-longer = ap (λ (x : Tracker). after x b) q ∙ rules.run-on o calls b
 
-  next-call : NextCall o calls b (intervalOf t b)
+  call-after : CallAfter o calls b (intervalOf t b)
   unfolding intervalOf intervalOutcome
-  next-call =
+  call-after =
       let outcome = ap (λ (n : ℕ). judged (intervalConditions n b)) (rules.claim t o calls q .awaits) in
       record {
         outcome = outcome;
@@ -58,14 +65,14 @@ module _ (t : Tracker) (b : List ℕ) (o : Opening) (calls : List (List ℕ)) (q
       }
 
 pub interval-promise : (t : Tracker) → Came t → (b : List ℕ) {r : Answer} → r ≡ intervalOf t b → IntervalPromise t b r
-interval-promise t came b e = rw e (record { is = refl; came = came-interval t came b; next = next-call t b })
+interval-promise t came b e = rw e (record { is = refl; came = came-interval t came b; call = call-after t b })
 
 -- the row of a direction that is there is shown
 pub row-shown : (t : Tracker) (d : ℕ) → d < 8 → rowAnswer t d .row ≡ rowOf t d
 unfolding rowAnswer rowOutcome rowConditions
 row-shown t d l = rw (le-ltb 7 d (omega arith))
 
--- and so is its size known, as is that of the zero row beside 17
+-- the zero row beside 17, and so every row that a row call returns, is bounded
 none-bounded : RowBounds noRow
 none-bounded = record {
   n = omega arith;
@@ -98,14 +105,14 @@ row-promise t came d e =
       claim = λ o calls q l. rw (row-shown t d l) (rules.claim t o calls q .each d l);
     })
 
--- A row has the direction asked for;
+-- A row has the direction asked for.
 pub row-direction : {t : Tracker} {d : ℕ} {r : RowAnswer} → Came t → RowPromise t d r → d < 8 → r .row .direction ≡ d
 row-direction {d = d} came row l =
     let o = came .opening in
     let calls = came .calls in
     ap (λ (x : Row). x .direction) (row .claim o calls (came .is) l .is-worked) ∙ worked-direction (firstOf o) d (history o d (accepted o calls))
 
--- after an accepted call it has the n that was awaited. (The next awaited number is one more: awaits-one-more.)
+-- After an accepted call a row has the n that was awaited. (The next awaited number is one more: awaits-one-more.)
 pub row-number : {t : Tracker} {b : List ℕ} {a : Answer} {d : ℕ} {r : RowAnswer} (o : Opening) (calls : List (List ℕ))
     → t ≡ run o calls
     → IntervalPromise t b a
@@ -114,5 +121,28 @@ pub row-number : {t : Tracker} {b : List ℕ} {a : Answer} {d : ℕ} {r : RowAns
     → d < 8
     → r .row .n ≡ awaitedFrom o calls
 row-number {b = b} {d = d} o calls q call ok row l =
-    let next = call .next o calls q in
-    ap (λ (x : Row). x .n) (row .claim o (calls ++ (b ∷ [])) (next .ran) l .is-worked) ∙ shows-awaited o calls b (sym (next .outcome) ∙ ok) d
+    let after = call .call o calls q in
+    ap (λ (x : Row). x .n) (row .claim o (calls ++ (b ∷ [])) (after .ran) l .is-worked) ∙ shows-awaited o calls b (sym (after .outcome) ∙ ok) d
+
+-- Every row that is worked out from an opening and a list of calls is bounded.
+pub worked-bounds : (o : Opening) (calls : List (List ℕ)) (d : ℕ) → d < 8 → RowBounds (workedFrom o calls d)
+worked-bounds o calls d l =
+    let row = row-promise (run o calls) (record { opening = o; calls = calls; is = refl }) d refl in
+    subst RowBounds (row .claim o calls refl l .is-worked) (row .bounded)
+
+-- What a row returned says to a caller whose own opening and list of calls led to the tracker; es is the history of the row's direction.
+module _ {t : Tracker} {d : ℕ} {r : RowAnswer} (promise : RowPromise t d r) (o : Opening) (calls : List (List ℕ)) (q : t ≡ run o calls) (below : d < 8) where
+  abbrev es : List Event
+  es = history o d (accepted o calls)
+
+  -- With no cause in the last twelve accepted intervals the next interval does not lie in the row's period.
+  pub row-without-cause : NoCause es → T (not (liesIn (awaitedFrom o calls) (r .row .period)))
+  row-without-cause = not-without-cause (promise .claim o calls q (omega arith))
+
+  -- At -10,000,000 cents or less, and not under review, it lies in it.
+  pub row-clamped : T (leZ (sumSince es .0 +ℤ estimate es .0) (minus 10000000)) → T (not (underReview es)) → T (liesIn (awaitedFrom o calls) (r .row .period))
+  row-clamped = clamped-at (promise .claim o calls q (omega arith))
+
+  -- The row's amount is the sum since the latest clearing interval.
+  pub row-amount : r .row .amount ≡ sumSince es
+  row-amount = amount-is (promise .claim o calls q (omega arith))

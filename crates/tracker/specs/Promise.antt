@@ -1,11 +1,14 @@
--- What crates above the tracker may cite, and nothing else of it or below it (with the lemmas of proofs/Promise): the words of the three
--- calls and of demand 3, and what the calls promise by them.
+-- What crates above the tracker may cite, and nothing else of it or below it (with the laws of proofs/Promise): the words of the three
+-- calls and of demand 3, and what the calls promise by them. Two words are named here and opened below only: what a record says of a
+-- direction (eventOf), and what the rules make of its history (stateAfter).
 use mathlib.Core.List.{List, [], _∷_, _++_}
 use mathlib.Core.Path.{_≡_}
 use Prim.Native.Nat.{ℕ, _<_}
 -- amounts and flows
 pub use Rattle.signed.specs.Range.{minus, negative}
-pub use Rattle.units.specs.Units.{cents, hundredths}
+pub use Rattle.units.specs.declared.Cents.{Cents}
+pub use Rattle.units.specs.declared.Hundredths.{Hundredths}
+pub use Rattle.units.specs.Units.{cents, hundredths, _+ᶜ_, lowerOfZero}
 -- what the calls take and answer
 pub use Rattle.rules.specs.declared.Tracker.{Tracker}
 pub use Rattle.rules.specs.declared.Row.{Row}
@@ -22,17 +25,21 @@ pub use Rattle.rules.specs.Record.{number}
 pub use Rattle.rules.specs.Refusal.{numberOf, isAccepted, Condition, _⇒_, judged, numberMet}
 unfoldable pub use Rattle.rules.specs.Refusal.{openConditions, intervalConditions, rowConditions}
 -- the calls, a list of them from an opening, and that a tracker came from such a list
-pub use Rattle.rules.specs.Tracker.{Opening, firstOf, sharesOf, openOf, intervalOf, rowAnswer}
+pub use Rattle.rules.specs.Tracker.{Opening, firstOf, sharesOf, accepts, openOf, intervalOf, rowOf, noRow, rowAnswer, after}
 unfoldable pub use Rattle.rules.specs.Tracker.{run}
 pub use Rattle.rules.specs.Claim.{Came}
 -- what follows from an opening and records alone: the accepted ones, the awaited number, the history of a direction, its row
 pub use Rattle.rules.specs.declared.Event.{Event}
-unfoldable pub use Rattle.rules.specs.Record.{eventOf}
+pub use Rattle.rules.specs.Record.{eventOf}
+pub use Rattle.rules.specs.Interval.{fresh}
+pub use Rattle.rules.specs.History.{stateAfter}
+pub use Rattle.rules.specs.Tracker.{row}
 unfoldable pub use Rattle.rules.specs.Claim.{hear, accepted, history, workedRow}
 pub use Rattle.rules.specs.Claim.{awaitedAfter, awaitedFrom, workedFrom}
 -- the words of demand 3 about a history, and the claim with its parts
-pub use Rattle.rules.specs.Interval.{Settings, settings}
-unfoldable pub use Rattle.rules.specs.History.{clearing, sinceClearing, sumNegative}
+pub use Rattle.rules.specs.Interval.{Settings, settings, place, halfHour, atThreshold}
+unfoldable pub use Rattle.rules.specs.Interval.{clearsAt}
+unfoldable pub use Rattle.rules.specs.History.{inHalfHour, latestHalfHour, anyNegative, clearing, sinceClearing, sumNegative}
 pub use Rattle.rules.specs.History.{sumSince, estimate, underReview, gotThere, GotThereWithin, liesIn}
 pub use Rattle.rules.specs.Claim.{DirectionClaim, ClaimOf, Claim}
 -- how large the numbers of a row get
@@ -50,19 +57,19 @@ pub record OpenPromise (o : Opening) (r : Answer) : Type 0 where
   pub ran : r .tracker ≡ run o []
   pub claim : Claim o [] (r .tracker)
 
--- The record b after a list of calls from an opening: its outcome is that of numbers 1 to 8 at the number which they await, the tracker
--- returned is the run of that list with this call at its end, and the claim of the longer list holds of it.
-pub record NextCall (o : Opening) (calls : List (List ℕ)) (b : List ℕ) (r : Answer) : Type 0 where
+-- The call of a record b after a list of calls from an opening: its outcome is that of numbers 1 to 8 at the number which they await, the
+-- tracker returned is the run of that list with this call at its end, and the claim of the longer list holds of it.
+pub record CallAfter (o : Opening) (calls : List (List ℕ)) (b : List ℕ) (r : Answer) : Type 0 where
   pub outcome : r .outcome ≡ judged (intervalConditions (awaitedFrom o calls) b)
   pub number : numberOf (r .outcome) ≡ numberMet (intervalConditions (awaitedFrom o calls) b)
   pub ran : r .tracker ≡ run o (calls ++ (b ∷ []))
   pub claim : Claim o (calls ++ (b ∷ [])) (r .tracker)
 
--- An interval call on a tracker t returns what document 01 says, and it is the next call of every opening and list that led to t.
+-- An interval call on a tracker t returns what document 01 says, and it is the call after every opening and list that led to t.
 pub record IntervalPromise (t : Tracker) (b : List ℕ) (r : Answer) : Type 0 where
   pub is : r ≡ intervalOf t b
   pub came : Came (r .tracker)
-  pub next : (o : Opening) (calls : List (List ℕ)) → t ≡ run o calls → NextCall o calls b r
+  pub call : (o : Opening) (calls : List (List ℕ)) → t ≡ run o calls → CallAfter o calls b r
 
 -- A row call returns what document 01 says, and demand 3 holds, in all its parts, of the row returned, for every opening and list that led to t.
 pub record RowPromise (t : Tracker) (d : ℕ) (r : RowAnswer) : Type 0 where
