@@ -176,8 +176,8 @@ fn read(call: &[u8], records: &[u8])
     no_call();
 }
 
-// Each byte as often as its place says, the first once: it tells a changed byte and a moved one.
-fn weighed(bytes: &[u8]) -> u64
+// The sum of (i + 1) × byte i, modulo 2^32: it tells a changed byte and a moved one.
+fn weighted_sum(bytes: &[u8]) -> u64
     requires { ⌜ length (now bytes) ≤ 131072 ⌝ }
 {
     let mut sum = 0;
@@ -204,7 +204,7 @@ fn print_written(records: &[u8], out: &mut [u8])
             print_number(0, b' ');
         }
     }
-    print_number(weighed(out), b'\n');
+    print_number(weighted_sum(out), b'\n');
 }
 
 // A buffer as it is before a write: not zeros, so that bytes that a write leaves alone are seen. Its length is told, so that it may be cut.

@@ -4,8 +4,10 @@ use journal::Found;
 use libc::STDOUT_FILENO;
 use rules::Outcome;
 use rules::Tracker;
-ghost use Prim.Native.Nat.{_≤_};
 ghost use Rattle.tracker.specs.Promise.{Came};
+
+// The longest listing.
+const ROOM: usize = 218942;
 
 // The eight rows of a tracker.
 fn print_rows(t: Tracker)
@@ -41,7 +43,7 @@ fn run(t: Tracker, records: &[u8])
 }
 
 // All eight rows after each interval of a journal, opened as clampday opens it.
-fn print_all_rows(bytes: &[u8]) {
+fn print_rows_of(bytes: &[u8]) {
     io::write_all(
         STDOUT_FILENO,
         b"n,direction,r,applies,previous,current,amount,next,net,held,first,last,extended,",
@@ -69,28 +71,27 @@ fn print_all_rows(bytes: &[u8]) {
     run(a.tracker, journal::records(bytes));
 }
 
-// How many bytes of the input clampday's buffer holds.
-fn held(length: usize) -> usize
-    ensures { λ r. ⌜ r ≤ length ⌝ }
-{
-    if 65536 < length { 65536 } else { length }
+// The listing, with buffers as clampday has them.
+fn print_listing(i: usize) {
+    let mut input = [0u8; 65536];
+    let mut out = [0u8; ROOM];
+    let file = report::open_argument(i);
+    listing::print_listing(file, &mut input, &mut out);
+    libc::close(file);
 }
 
-// As clampday lists it: what its buffer holds of the input, and whether more follows.
-fn print_listing(bytes: &[u8]) {
-    let mut out = [0u8; 262144];
-    let n = held(bytes.len());
-    let k = listing::listing(&bytes[0..n], n < bytes.len(), &mut out);
-    io::write_all(STDOUT_FILENO, &out[..k]);
-}
-
-// The journal that argument i names. A byte more than clampday's buffer is read, so that what is too long is seen to be.
-fn run_case(i: usize) {
-    report::print_argument(i);
+// All eight rows after each interval. A byte more than clampday's buffer is read, so that what is too long is seen to be.
+fn print_all_rows(i: usize) {
     let mut input = [0u8; 65537];
     let n = report::read_argument(i, &mut input);
-    print_listing(&input[..n]);
-    print_all_rows(&input[..n]);
+    print_rows_of(&input[..n]);
+}
+
+// The journal that argument i names.
+fn run_case(i: usize) {
+    report::print_argument(i);
+    print_listing(i);
+    print_all_rows(i);
 }
 
 fn main() {

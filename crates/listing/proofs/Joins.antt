@@ -1,10 +1,10 @@
--- Lines end to end: those of a row, of a tracker's rows, of records, and of what follows the header, case by case.
+-- Lines end to end: those of a row, of eight rows, of records, and of what follows the header, case by case.
 -- Assumes nothing.
-use mathlib.Core.Path.{_≡_, refl, ap, sym, _∙_}
+use mathlib.Core.Path.{_≡_, refl, ap, ap₂, sym, _∙_}
 use mathlib.Core.Bool.{true, false}
 use mathlib.Core.List.{List, [], _∷_, _++_, append-assoc, append-nil}
 use mathlib.Core.Option.{Option}
-use Prim.Native.Nat.{ℕ, suc, _+_, _-_, _/_, _<_, _≤_}
+use Prim.Native.Nat.{ℕ, zero, suc, _+_, _-_, _/_, _<_, _≤_}
 use native.Mathlib.Numerals.{add-one}
 use native.Mathlib.Omega.{arith}
 use lib.ListN.{length, take, drop}
@@ -13,11 +13,9 @@ use borrow.Author.Tests.{eq-eqb, ne-eqb}
 use Rattle.journal.specs.declared.Found.{Found}
 use Rattle.journal.specs.declared.Found.the-variants.{Journal, Refused as NotRead}
 use Rattle.journal.specs.Journal.{countOf, readOf, recordsOf}
-use Rattle.tracker.specs.Promise.{Tracker, Row, Answer, Accepted, Refused, OpenPromise, numberOf, intervalOf}
+use Rattle.tracker.specs.Promise.{Row, Answer, Accepted, Refused, Opening, OpenPromise, CallAfter, numberOf, workedFrom}
 use Rattle.listing.specs.Line.{joined, lineOf, listedOf}
-use Rattle.listing.specs.Listing.{ifListed, rowLines, eightRows, callLines, refusedLine, openedAt, recordLines, bodyLines}
-use Rattle.listing.specs.Shown.{shownBy, shownLines}
-use Rattle.listing.proofs.Followed.{worked-run}
+use Rattle.listing.specs.Listing.{ifListed, rowLines, eightRows, callLines, refusedLine, runLines, openedAt, openedLines, recordLines, bodyLines}
 
 pub joined-append : (a b : List (List ℕ)) → joined (a ++ b) ≡ joined a ++ joined b
 unfolding joined
@@ -50,48 +48,64 @@ pub rows-done : (rows : ℕ → Row) (d : ℕ) → 8 ≤ d → rowsFrom rows d �
 unfolding rowLines joined
 rows-done rows d h = let e : 8 - d ≡ 0 = omega arith in rw e
 
--- the lines of the records from byte i on
-abbrev pub rest : List ℕ → ℕ → Tracker → List ℕ
-rest r i u = joined (shownLines ((length r - i) / 168) u (drop i r))
+-- rows that are the same, direction by direction, have the same lines
+rows-same : (f g : ℕ → Row) → ((d : ℕ) → d < 8 → f d ≡ g d) → (left d : ℕ) → d + left ≤ 8 → rowLines f d left ≡ rowLines g d left
+unfolding rowLines
+rows-same f g same zero d h = refl
+rows-same f g same (suc left) d h = ap₂ (λ a b. a ++ b) (ap ifListed (same d (omega arith))) (rows-same f g same left (suc d) (omega arith))
 
-pub rest-all : (r : List ℕ) (u : Tracker) → joined (shownLines (countOf r) u r) ≡ rest r 0 u
-rest-all r u = let e : length r - 0 ≡ length r = omega arith in rw e
+pub eight-same : (f g : ℕ → Row) → ((d : ℕ) → d < 8 → f d ≡ g d) → joined (eightRows f) ≡ joined (eightRows g)
+eight-same f g same = ap joined (rows-same f g same 8 0 (omega arith))
 
-pub rest-none : (r : List ℕ) (i : ℕ) (u : Tracker) → length r ≤ i → rest r i u ≡ []
-unfolding shownLines joined
-rest-none r i u h = let e : (length r - i) / 168 ≡ 0 = omega arith in rw e
+-- the lines of the records from byte i on, after those that have passed
+abbrev pub rest : Opening → List ℕ → ℕ → List (List ℕ) → List ℕ
+rest o r i passed = joined (runLines o ((length r - i) / 168) passed (drop i r))
 
--- one record's turn: the call's answer, on the record as the code takes it out
-module _ (r : List ℕ) (i : ℕ) (u : Tracker) (a : Answer) (h : i + 168 ≤ length r) (is : a ≡ intervalOf u (take (i + 168 - i) (drop i r))) where
-  turn : rest r i u ≡ joined (callLines (numberOf (a .outcome)) (eightRows (shownBy (a .tracker))) (shownLines ((length r - (i + 168)) / 168) (a .tracker) (drop (i + 168) r)))
-  unfolding shownLines
-  turn =
+pub rest-all : (o : Opening) (r : List ℕ) → joined (runLines o (countOf r) [] r) ≡ rest o r 0 []
+rest-all o r = let e : length r - 0 ≡ length r = omega arith in rw e
+
+pub rest-none : (o : Opening) (r : List ℕ) (i : ℕ) (passed : List (List ℕ)) → length r ≤ i → rest o r i passed ≡ []
+unfolding runLines joined
+rest-none o r i passed h = let e : (length r - i) / 168 ≡ 0 = omega arith in rw e
+
+-- one record's turn: by the promise of its call, on the record b as the code takes it out
+module _ (o : Opening) (r : List ℕ) (i : ℕ) (passed : List (List ℕ)) (h : i + 168 ≤ length r) {b : List ℕ} {a : Answer} (is : b ≡ take (i + 168 - i) (drop i r)) (call : CallAfter o passed b a) where
+  abbrev upto : List (List ℕ)
+  upto = passed ++ (b ∷ [])
+
+  turn : {m : Option ℕ} → numberOf (a .outcome) ≡ m → rest o r i passed ≡ joined (callLines m (eightRows (workedFrom o upto)) (runLines o ((length r - (i + 168)) / 168) upto (drop (i + 168) r)))
+  unfolding runLines
+  turn e =
       let n : (length r - i) / 168 ≡ suc ((length r - (i + 168)) / 168) = omega arith in
-      let m : i + 168 - i ≡ 168 = omega arith in
-      let e : intervalOf u (take 168 (drop i r)) ≡ a = sym (is ∙ ap (λ (k : ℕ). intervalOf u (take k (drop i r))) m) in
-      rw (n, e, drop-drop 168 i r)
+      let k : i + 168 - i ≡ 168 = omega arith in
+      let taken : take 168 (drop i r) ≡ b = sym (is ∙ ap (λ (k : ℕ). take k (drop i r)) k) in
+      rw (n, taken, drop-drop 168 i r, sym (call .number) ∙ e)
 
-  pub go-on : a .outcome ≡ Accepted → rest r i u ≡ joined (eightRows (shownBy (a .tracker))) ++ rest r (i + 168) (a .tracker)
-  go-on e = turn ∙ rw e (joined-append (eightRows (shownBy (a .tracker))) (shownLines ((length r - (i + 168)) / 168) (a .tracker) (drop (i + 168) r)))
+  pub go-on : a .outcome ≡ Accepted → rest o r i passed ≡ joined (eightRows (workedFrom o upto)) ++ rest o r (i + 168) upto
+  go-on e = turn (ap numberOf e) ∙ joined-append (eightRows (workedFrom o upto)) (runLines o ((length r - (i + 168)) / 168) upto (drop (i + 168) r))
 
-  pub go-off : (k : ℕ) → a .outcome ≡ Refused k → rest r i u ≡ refusedLine k
-  go-off k e = turn ∙ rw e (joined-one (refusedLine k))
+  pub go-off : (k : ℕ) → a .outcome ≡ Refused k → rest o r i passed ≡ refusedLine k
+  go-off k e = turn (ap numberOf e) ∙ joined-one (refusedLine k)
 
 -- what the records give, by the opening's outcome
+module _ (first : ℕ) (r : List ℕ) {a : Answer} (p : OpenPromise (openedAt first) a) where
+  by-number : {m : Option ℕ} → numberOf (a .outcome) ≡ m → joined (openedLines first r) ≡ joined (callLines m [] (runLines (openedAt first) (countOf r) [] r))
+  unfolding openedLines
+  by-number e = rw (sym (p .number) ∙ e)
+
+  pub opened : a .outcome ≡ Accepted → joined (openedLines first r) ≡ joined (runLines (openedAt first) (countOf r) [] r)
+  opened e = by-number (ap numberOf e)
+
+  pub unopened : (k : ℕ) → a .outcome ≡ Refused k → joined (openedLines first r) ≡ refusedLine k
+  unopened k e = by-number (ap numberOf e) ∙ joined-one (refusedLine k)
+
 pub no-records : (first : ℕ) (r : List ℕ) → length r ≡ 0 → joined (recordLines first r) ≡ []
 unfolding recordLines joined
 no-records first r l = rw (eq-eqb _ _ l)
 
-module _ (first : ℕ) (r : List ℕ) (a : Answer) (l : length r ≡ 0 → ⊥) (p : OpenPromise (openedAt first) a) where
-  by-number : {m : Option ℕ} → numberOf (a .outcome) ≡ m → joined (recordLines first r) ≡ joined (callLines m [] (shownLines (countOf r) (a .tracker) r))
-  unfolding recordLines
-  by-number e = rw (ne-eqb _ _ l, sym (p .number) ∙ e, ← worked-run (openedAt first) (countOf r) [] (a .tracker) (p .ran) r)
-
-  pub opened : a .outcome ≡ Accepted → joined (recordLines first r) ≡ joined (shownLines (countOf r) (a .tracker) r)
-  opened e = by-number (ap numberOf e)
-
-  pub unopened : (k : ℕ) → a .outcome ≡ Refused k → joined (recordLines first r) ≡ refusedLine k
-  unopened k e = by-number (ap numberOf e) ∙ joined-one (refusedLine k)
+pub some-records : (first : ℕ) (r : List ℕ) → (length r ≡ 0 → ⊥) → joined (recordLines first r) ≡ joined (openedLines first r)
+unfolding recordLines
+some-records first r l = rw (ne-eqb _ _ l)
 
 -- what follows the header, by what a read finds
 module _ (s : List ℕ) (f : Found) (is : f ≡ readOf s) where

@@ -2,7 +2,6 @@
 pub mod Bound
 mod Cells
 pub mod Figures
-mod Followed
 mod Joins
 mod Numbers
 pub mod Total

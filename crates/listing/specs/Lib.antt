@@ -2,4 +2,3 @@
 pub mod Line
 pub mod Listing
 pub mod Table
-pub mod Shown

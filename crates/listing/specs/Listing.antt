@@ -26,7 +26,7 @@ refusedLine k = ascii "refused," ++ countOf k newline
 abbrev pub endedBy : ℕ → List (List ℕ)
 endedBy k = refusedLine k ∷ []
 
--- What a call gives by its number: its own lines and those that follow, or the refusal.
+-- What a call gives, by its number: its own lines and those that follow, or the refusal.
 abbrev pub callLines : Option ℕ → List (List ℕ) → List (List ℕ) → List (List ℕ)
 callLines none own following = own ++ following
 callLines (some k) own following = endedBy k
@@ -35,7 +35,7 @@ callLines (some k) own following = endedBy k
 abbrev pub ifListed : Row → List (List ℕ)
 ifListed r = cond (listedOf r) (lineOf r ∷ []) []
 
--- By interval, then direction: of the rows by direction those of as many as are left, from d on.
+-- By interval, then direction: the lines of the printed rows of directions d, d+1, …, as many as are left.
 unfoldable pub rowLines : (ℕ → Row) → ℕ → ℕ → List (List ℕ)
 rowLines rows d zero = []
 rowLines rows d (suc left) = ifListed (rows d) ++ rowLines rows (suc d) left
@@ -43,8 +43,8 @@ rowLines rows d (suc left) = ifListed (rows d) ++ rowLines rows (suc d) left
 abbrev pub eightRows : (ℕ → Row) → List (List ℕ)
 eightRows rows = rowLines rows 0 8
 
--- So many records in turn, after those that have passed: of each the rows worked out from the opening and the records up to it, up to the
--- first that is refused, at the number which those before it await.
+-- The next k records of r, after those that have passed: for each the printed ones of the eight rows worked out from the opening and the
+-- records up to it. The first refused one, at the number which those before it await, ends the listing with its number.
 unfoldable pub runLines : Opening → ℕ → List (List ℕ) → List ℕ → List (List ℕ)
 runLines o zero passed r = []
 runLines o (suc k) passed r =
@@ -59,11 +59,14 @@ openedAt first = opening first (replicate 6 500)
 abbrev pub openingNumber : Opening → Option ℕ
 openingNumber o = numberMet (openConditions (o .first) (o .shares))
 
+unfoldable pub openedLines : ℕ → List ℕ → List (List ℕ)
+openedLines first r =
+    let o = openedAt first in
+    callLines (openingNumber o) [] (runLines o (J.countOf r) [] r)
+
 -- An empty journal prints the header alone: it is not opened.
 unfoldable pub recordLines : ℕ → List ℕ → List (List ℕ)
-recordLines first r =
-    let o = openedAt first in
-    cond (eqb (length r) 0) [] (callLines (openingNumber o) [] (runLines o (J.countOf r) [] r))
+recordLines first r = cond (eqb (length r) 0) [] (openedLines first r)
 
 -- After the read: what the records give, or its number.
 abbrev pub readLines : Found → List ℕ → List (List ℕ)
@@ -73,7 +76,7 @@ readLines (NotRead k) r = endedBy k
 unfoldable pub bodyLines : List ℕ → List (List ℕ)
 bodyLines journal = readLines (readOf journal) (recordsOf journal)
 
--- The program's buffer holds 65,536 bytes; input beyond it is 11, whatever the buffer holds.
+-- `input` is what the program's buffer holds, `more` whether input goes on beyond it: that is 11, whatever the buffer holds.
 unfoldable pub inputLines : List ℕ → Bool → List (List ℕ)
 inputLines input more = cond more (endedBy 11) (bodyLines input)
 

@@ -1,20 +1,20 @@
 // The listing of a journal: which rows are printed, each as a line, and all lines in one buffer. Every writer has the form of crate `text`: it
 // puts its bytes from a place on, gives the place after them, and leaves every other byte as it was.
 use journal::Found;
+use libc::STDOUT_FILENO;
 use rules::Outcome;
 use rules::Row;
 use rules::Tracker;
+ghost use mathlib.Core.List.{List};
 ghost use mathlib.Core.Path.{_≡_};
 ghost use Prim.Native.Nat.{ℕ, _+_, _%_, _<_, _≤_};
 ghost use lib.ListN.{length};
 ghost use Rattle.io.specs.Counts.{Counts};
 ghost use Rattle.text.specs.Text.{countOf, pasted, over};
-ghost use Rattle.tracker.specs.Promise.{Came, RowBounds};
-ghost use Rattle.journal.specs.Journal as J;
+ghost use Rattle.tracker.specs.Promise.{Came, Opening, RowBounds, run, workedFrom};
 ghost use Rattle.listing.specs.Line.{comma, mark, nameOf, joined, amountsOf, lineOf, listedOf};
-ghost use Rattle.listing.specs.Table.{keptNames};
-ghost use Rattle.listing.specs.Shown.{shownBy, shownRows, shownLines};
-ghost use Rattle.listing.specs.Listing.{header, refusedLine, ifListed, eightRows, recordLines, bodyLines, inputLines, listingOf};
+ghost use Rattle.listing.specs.Table.{keptNames, rowAt, AllBounded, AllWorked};
+ghost use Rattle.listing.specs.Listing.{header, refusedLine, ifListed, eightRows, openedLines, recordLines, bodyLines, inputLines, listingOf};
 
 // Of the names, ten bytes apart, direction d's with its comma: the last four are a byte shorter than that.
 fn name_among(names: &[u8], d: usize, out: &mut [u8], at: usize) -> usize
@@ -114,8 +114,8 @@ fn row_line(row: Row, out: &mut [u8], at: usize) -> usize
 // What a direction shows.
 fn shown(t: Tracker, d: usize) -> Row
     requires { ⌜ Came t × (d < 8) ⌝ }
-    ensures { λ r. ⌜ r ≡ shownBy t d ⌝ }
-    ensures { λ r. ⌜ RowBounds (shownBy t d) ⌝ }
+    ensures { λ r. ⌜ RowBounds r ⌝ }
+    ensures { λ r. ⌜ ((o : Opening) (calls : List (List ℕ)) → t ≡ run o calls → r ≡ workedFrom o calls d) ⌝ }
 {
     let a = tracker::row(t, d);
     a.row
@@ -124,8 +124,8 @@ fn shown(t: Tracker, d: usize) -> Row
 // All eight, each asked for by its number: a number that only the run knows would have the whole tracker copied for each row.
 fn all_shown(t: Tracker) -> [Row; 8]
     requires { ⌜ Came t ⌝ }
-    ensures { λ r. ⌜ r ≡ shownRows t ⌝ }
-    ensures { λ r. ⌜ ((d : ℕ) → d < 8 → RowBounds (shownBy t d)) ⌝ }
+    ensures { λ r. ⌜ AllBounded r ⌝ }
+    ensures { λ r. ⌜ ((o : Opening) (calls : List (List ℕ)) → t ≡ run o calls → AllWorked o calls r) ⌝ }
 {
     [
         shown(t, 0),
@@ -139,13 +139,12 @@ fn all_shown(t: Tracker) -> [Row; 8]
     ]
 }
 
-// The printed rows of a tracker.
-fn rows(t: Tracker, out: &mut [u8], at: usize) -> usize
-    requires { ⌜ Came t × (at + length (joined (eightRows (shownBy t))) ≤ length (now out)) ⌝ }
-    ensures { λ r. ⌜ r ≡ at + length (joined (eightRows (shownBy t))) ⌝ }
-    ensures { λ r. ⌜ now (out .exit) ≡ pasted at (joined (eightRows (shownBy t))) (now (out .entry)) ⌝ }
+// The lines of the printed ones of eight rows.
+fn rows(all: [Row; 8], out: &mut [u8], at: usize) -> usize
+    requires { ⌜ AllBounded all × (at + length (joined (eightRows (rowAt all))) ≤ length (now out)) ⌝ }
+    ensures { λ r. ⌜ r ≡ at + length (joined (eightRows (rowAt all))) ⌝ }
+    ensures { λ r. ⌜ now (out .exit) ≡ pasted at (joined (eightRows (rowAt all))) (now (out .entry)) ⌝ }
 {
-    let all = all_shown(t);
     let mut e = at;
     let mut d: usize = 0;
     while d < 8 {
@@ -166,24 +165,29 @@ fn refused(number: u8, out: &mut [u8], at: usize) -> usize
     text::count(number as u64, b'\n', out, a)
 }
 
-// The lines of records end to end, each in its turn; those of the records before a refusal stay.
-fn run(t: Tracker, records: &[u8], out: &mut [u8], at: usize) -> usize
-    requires { ⌜ Came t × ((length (now records) % 168 ≡ 0) × (at + length (joined (shownLines (J.countOf (now records)) t (now records))) ≤ length (now out))) ⌝ }
-    ensures { λ r. ⌜ r ≡ at + length (joined (shownLines (J.countOf (now (records .entry))) t (now (records .entry)))) ⌝ }
-    ensures { λ r. ⌜ now (out .exit) ≡ pasted at (joined (shownLines (J.countOf (now (records .entry))) t (now (records .entry)))) (now (out .entry)) ⌝ }
+// The lines of records end to end, each put in its turn to a tracker that is opened at the first n; those of the records before a refusal stay.
+fn run(first: u32, records: &[u8], out: &mut [u8], at: usize) -> usize
+    requires { ⌜ (length (now records) % 168 ≡ 0) × (at + length (joined (openedLines first (now records))) ≤ length (now out)) ⌝ }
+    ensures { λ r. ⌜ r ≡ at + length (joined (openedLines first (now (records .entry)))) ⌝ }
+    ensures { λ r. ⌜ now (out .exit) ≡ pasted at (joined (openedLines first (now (records .entry)))) (now (out .entry)) ⌝ }
 {
-    let mut u = t;
+    let opened = tracker::open(first, [500; 6]);
+    let opening = opened.outcome;
+    if let Outcome::Refused(number) = opening {
+        return refused(number, out, at);
+    }
+    let mut t = opened.tracker;
     let mut e = at;
     let mut i: usize = 0;
     while i < records.len() {
         let f = i + 168;
-        let a = tracker::interval(u, &records[i..f]);
+        let a = tracker::interval(t, &records[i..f]);
         let outcome = a.outcome;
         if let Outcome::Refused(number) = outcome {
             return refused(number, out, e);
         }
-        u = a.tracker;
-        e = rows(u, out, e);
+        t = a.tracker;
+        e = rows(all_shown(t), out, e);
         i = f;
     }
     e
@@ -198,15 +202,7 @@ fn opened(first: u32, records: &[u8], out: &mut [u8], at: usize) -> usize
     if records.len() == 0 {
         return at;
     }
-    let a = tracker::open(first, [500; 6]);
-    let outcome = a.outcome;
-    match outcome {
-        Outcome::Accepted => {
-            let t = a.tracker;
-            run(t, records, out, at)
-        }
-        Outcome::Refused(number) => refused(number, out, at),
-    }
+    run(first, records, out, at)
 }
 
 // What a journal gives.
@@ -256,4 +252,15 @@ pub fn listing(input: &[u8], more: bool, out: &mut [u8]) -> usize
 {
     let e = heading(out);
     input_lines(input, more, out, e)
+}
+
+// Reads a journal from an open file into one lent buffer, and whether more follows; lists it in the other, and prints that.
+pub fn print_listing(file: i32, input: &mut [u8], out: &mut [u8])
+    requires { ⌜ 218942 ≤ length (now out) ⌝ }
+{
+    let mut beyond = [0u8; 1];
+    let n = io::read_full(file, input);
+    let more = io::read_full(file, &mut beyond) != 0;
+    let k = listing(&input[..n], more, out);
+    io::write_all(STDOUT_FILENO, &out[..k]);
 }

@@ -16,7 +16,7 @@ pub fn print_number(n: u64, end: u8) {
     io::write_all(STDOUT_FILENO, &text);
 }
 
-fn print_flag(flag: bool) {
+fn print_bool(flag: bool) {
     if flag {
         print_number(1, b',');
     } else {
@@ -50,7 +50,7 @@ fn print_period(p: Period) {
             io::write_all(STDOUT_FILENO, b"1,");
             print_number(first as u64, b',');
             print_number(last as u64, b',');
-            print_flag(extended);
+            print_bool(extended);
         }
     }
 }
@@ -71,7 +71,7 @@ pub fn print_row(r: Row)
     print_number(r.n as u64, b',');
     print_number(r.direction as u64, b',');
     print_cents(residue);
-    print_flag(r.applies);
+    print_bool(r.applies);
     print_cents(previous);
     print_cents(current);
     print_cents(amount);
@@ -80,8 +80,8 @@ pub fn print_row(r: Row)
     print_period(period);
     print_number(counts.unbound as u64, b',');
     print_number(counts.violated as u64, b',');
-    print_flag(r.blocked);
-    print_flag(r.flag);
+    print_bool(r.blocked);
+    print_bool(r.flag);
     print_hundredths(clamp);
     print_number(r.notice as u64, b'\n');
 }
@@ -100,27 +100,25 @@ pub fn print_argument(i: usize) {
     io::write_all(STDOUT_FILENO, b"\n");
 }
 
-// The file of that name, at the start of the buffer, and how many bytes of it are there. One that is not there has none, and a line that no
-// case has says so: it must not look like an empty file.
-fn read_file(name: &[u8], buffer: &mut [u8]) -> usize
-    ensures { λ r. ⌜ Counts r (now (buffer .exit)) ⌝ }
-{
-    let file = os::open_read(name);
+// The file that argument i names, open for reading. One that is not there has no bytes, and a line that no case has says so: it must not look
+// like an empty file.
+pub fn open_argument(i: usize) -> i32 {
+    let mut name = [0u8; 64];
+    let k = os::arg(i, &mut name);
+    let file = os::open_read(&name[..k]);
     if file < 0 {
         io::write_all(STDOUT_FILENO, b"not opened\n");
-        os::fail(name);
-        return 0;
+        os::fail(&name[..k]);
     }
-    let n = io::read_full(file, buffer);
-    libc::close(file);
-    n
+    file
 }
 
-// The file that argument i names.
+// The bytes of the file that argument i names, at the start of the buffer, and how many there are.
 pub fn read_argument(i: usize, buffer: &mut [u8]) -> usize
     ensures { λ r. ⌜ Counts r (now (buffer .exit)) ⌝ }
 {
-    let mut name = [0u8; 64];
-    let k = os::arg(i, &mut name);
-    read_file(&name[..k], buffer)
+    let file = open_argument(i);
+    let n = io::read_full(file, buffer);
+    libc::close(file);
+    n
 }

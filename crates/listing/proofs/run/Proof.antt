@@ -1,61 +1,107 @@
--- `listing::run` meets its contract. The loop's invariant: the lines of the records passed are there, and those from byte i on are left to
--- put, on the tracker that the calls left.
+-- `listing::run` meets its contract. The loop's invariant: the tracker is the run of the records passed; their lines are there, and those of the
+-- records from byte i on are left to put.
 -- Assumes nothing.
-use mathlib.Core.Path.{_≡_, refl}
-use mathlib.Core.List.{List, _++_}
+use mathlib.Core.Path.{_≡_, refl, ap, sym, _∙_}
+use mathlib.Core.List.{List, [], _∷_, _++_}
 use Prim.Native.Nat.{ℕ, _+_, _-_, _%_, _≤_}
 use native.Mathlib.Omega.{arith}
-use lib.ListN.{length}
+use lib.ListN.{length, take, drop}
 use borrow.Author.Needs.{needs}
 use Rattle.text.proofs.Upto.{Upto, start, room, step, room-last, last, said, end-held, end-place}
-use Rattle.journal.specs.Journal.{countOf}
-use Rattle.tracker.specs.Promise.{Came}
+use Rattle.tracker.specs.Promise.{Opening, CallAfter, run, workedFrom}
 use Rattle.listing.specs.Line.{joined}
-use Rattle.listing.specs.Listing.{eightRows, refusedLine}
-use Rattle.listing.specs.Shown.{shownBy, shownLines}
-use Rattle.listing.proofs.Joins.{rest, rest-all, rest-none, go-on, go-off}
+use Rattle.listing.specs.Listing.{eightRows, refusedLine, openedAt, openedLines}
+use Rattle.listing.specs.Table.{rowAt}
+use Rattle.listing.proofs.Joins.{eight-same, rest, rest-all, rest-none, go-on, go-off, opened, unopened}
 use Rattle.listing.proofs.run.Statement.{statement}
 use Rattle.listing.proofs.run.Tie as tie
 
 abbrev Inv-loop : tie.InvT-loop
-Inv-loop records out₀ at u₀ e₀ i₀ out u e i =
+Inv-loop first records out₀ at t₀ e₀ i₀ out t e i =
     (i ≤ length records)
     × (i % 168 ≡ 0)
     × (length out ≡ length out₀)
-    × Came u
-    × Upto (joined (shownLines (countOf records) u₀ records)) (rest records i u) out₀ out at e
+    × ((passed : List (List ℕ)) × (t ≡ run (openedAt first) passed) × Upto (joined (openedLines first records)) (rest (openedAt first) records i passed) out₀ out at e)
 
 abbrev μ-loop : tie.MeasureT-loop
-μ-loop records out₀ at u₀ e₀ i₀ out u e i = length records - i
+μ-loop first records out₀ at t₀ e₀ i₀ out t e i = length records - i
+
+abbrev begin : tie.At-loop Inv-loop μ-loop → tie.Start Inv-loop μ-loop
+begin c = c .before .before .before .before .before .before .before
 
 abbrev whole : tie.Start Inv-loop μ-loop → List ℕ
-whole s = joined (shownLines (countOf (s .args .records .now)) (s .args .t) (s .args .records .now))
+whole s = joined (openedLines (s .args .first) (s .args .records .now))
 
--- of the whole, what is left where a call is refused, and where it is accepted
-off : (c : tie.After-outcome Inv-loop μ-loop)
-    → let s = c .before .before .before .before .before .before .before .before in
-    let l = c .before .before .before .before .before .loop in
-    Upto (whole s) (refusedLine (c .outcome .given .0 .0)) (s .args .out .now) (l .out) (s .args .at) (l .e)
+-- where the opening is refused, the refusal is all there is
+unopened-is : (c : tie.After-opening Inv-loop μ-loop) → whole (c .before .before .before .before .before) ≡ refusedLine (c .opening .given .0 .0)
+unopened-is c = let a = c .before .before .before .before .before .args in unopened (a .first) (a .records .now) (c .before .before .«open» .ensures) (c .opening .given .0 .0) (c .opening .given .1)
+
+-- at the loop's head: the opening, the records passed, the record that is taken out, and with it those up to it
+abbrev from : tie.At-loop Inv-loop μ-loop → Opening
+from c = openedAt (begin c .args .first)
+
+abbrev passed : tie.At-loop Inv-loop μ-loop → List (List ℕ)
+passed c = c .loop .inv .3 .0
+
+abbrev taken : tie.At-loop Inv-loop μ-loop → List ℕ
+taken c = take (c .loop .i + 168 - c .loop .i) (drop (c .loop .i) (begin c .args .records .now))
+
+abbrev upto : tie.At-loop Inv-loop μ-loop → List (List ℕ)
+upto c = passed c ++ (taken c ∷ [])
+
+-- these lines are left of the whole
+abbrev Left : tie.At-loop Inv-loop μ-loop → List ℕ → Type 0
+Left c lines = Upto (whole (begin c)) lines (begin c .args .out .now) (c .loop .out) (begin c .args .at) (c .loop .e)
+
+-- the call of that record, after the records passed
+call : (c : tie.After-interval Inv-loop μ-loop) → CallAfter (from (c .before .before .before)) (passed (c .before .before .before)) (taken (c .before .before .before)) (c .interval .result)
+call c = c .interval .ensures .call (from (c .before .before .before)) (passed (c .before .before .before)) (c .before .before .before .loop .inv .3 .1)
+
+-- what is left where the call is refused, and where it is accepted
+off : (c : tie.After-outcome Inv-loop μ-loop) → Left (c .before .before .before .before .before) (refusedLine (c .outcome .given .0 .0))
 off c =
-    let l = c .before .before .before .before .before .loop in
-    let a = c .before .before .interval in
-    said (go-off (c .before .before .before .before .before .before .before .before .args .records .now) (l .i) (l .u) (a .result) (omega arith) (a .ensures .is) (c .outcome .given .0 .0) (c .outcome .given .1)) (l .inv .4)
+    let head = c .before .before .before .before .before in
+    said (go-off (from head) (begin head .args .records .now) (head .loop .i) (passed head) (omega arith) refl (call (c .before .before)) (c .outcome .given .0 .0) (c .outcome .given .1)) (head .loop .inv .3 .2)
 
-on : (c : tie.After-enum-told Inv-loop μ-loop)
-    → let s = c .before .before .before .before .before .before .before .before in
-    let l = c .before .before .before .before .before .loop in
-    let t = c .before .before .interval .result .tracker in
-    Upto (whole s) (joined (eightRows (shownBy t)) ++ rest (s .args .records .now) (l .i + 168) t) (s .args .out .now) (l .out) (s .args .at) (l .e)
+on : (c : tie.After-enum-told2 Inv-loop μ-loop)
+    → let head = c .before .before .before .before .before in
+    Left head (joined (eightRows (workedFrom (from head) (upto head))) ++ rest (from head) (begin head .args .records .now) (head .loop .i + 168) (upto head))
 on c =
-    let l = c .before .before .before .before .before .loop in
-    let a = c .before .before .interval in
-    said (go-on (c .before .before .before .before .before .before .before .before .args .records .now) (l .i) (l .u) (a .result) (omega arith) (a .ensures .is) (c .enum-told .given .1)) (l .inv .4)
+    let head = c .before .before .before .before .before in
+    said (go-on (from head) (begin head .args .records .now) (head .loop .i) (passed head) (omega arith) refl (call (c .before .before)) (c .enum-told2 .given .1)) (head .loop .inv .3 .2)
+
+-- the rows shown are those worked out from the records up to it
+worked : (c : tie.After-all-shown Inv-loop μ-loop)
+    → let head = c .before .before .before .before .before .before .before in
+    joined (eightRows (rowAt (c .all-shown .result))) ≡ joined (eightRows (workedFrom (from head) (upto head)))
+worked c =
+    let head = c .before .before .before .before .before .before .before in
+    eight-same (rowAt (c .all-shown .result)) (workedFrom (from head) (upto head)) (c .all-shown .ensures .1 (from head) (upto head) (call (c .before .before .before .before) .ran))
+
+open-requires : tie.Need-open-requires Inv-loop μ-loop
+open-requires c κs = search needs
+
+enum-known-opening : tie.Need-enum-known-opening Inv-loop μ-loop
+enum-known-opening c = search needs
+
+refused-requires : tie.Need-refused-requires Inv-loop μ-loop
+refused-requires c κs = omega (arith, ap length (unopened-is (c .before .before)))
+
+same-length : tie.Need-same-length Inv-loop μ-loop
+same-length c = search needs
+
+returns : tie.Need-returns Inv-loop μ-loop
+returns c = rw (sym (unopened-is (c .before .before .before .before .before))) at (c .before .before .refused .ensures)
+
+enum-told : tie.Need-enum-told Inv-loop μ-loop
+enum-told c = search needs
 
 loop-holds : tie.Need-loop-holds Inv-loop μ-loop
 loop-holds c =
-    let s = c .before .before in
-    let r = s .args .records .now in
-    (omega arith, omega arith, refl, s .pre .0, said (rest-all r (s .args .t)) (start (whole s) (s .args .out .now) (s .args .at)))
+    let a = c .before .before .before .before .before .before .args in
+    let promise = c .before .before .before .«open» .ensures in
+    let lines = opened (a .first) (a .records .now) promise (c .before .enum-told .given .1) ∙ rest-all (openedAt (a .first)) (a .records .now) in
+    (omega arith, omega arith, refl, ([], promise .ran, said lines (start (joined (openedLines (a .first) (a .records .now))) (a .out .now) (a .at))))
 
 add-f : tie.Need-add-f Inv-loop μ-loop
 add-f c = omega arith
@@ -70,31 +116,37 @@ part-interval-end : tie.Need-part-interval-end Inv-loop μ-loop
 part-interval-end c = omega arith
 
 interval-requires : tie.Need-interval-requires Inv-loop μ-loop
-interval-requires c κs = c .before .before .loop .inv .3
+interval-requires c κs =
+    let head = c .before .before in
+    record { opening = from head; calls = passed head; is = head .loop .inv .3 .1 }
 
 enum-known-outcome : tie.Need-enum-known-outcome Inv-loop μ-loop
 enum-known-outcome c = search needs
 
-refused-requires : tie.Need-refused-requires Inv-loop μ-loop
-refused-requires c κs = room-last (refusedLine (c .before .before .outcome .given .0 .0)) (off (c .before .before)) (length (c .before .before .before .before .before .before .before .loop .out)) (omega arith)
+refused-requires-2 : tie.Need-refused-requires-2 Inv-loop μ-loop
+refused-requires-2 c κs = room-last (refusedLine (c .before .before .outcome .given .0 .0)) (off (c .before .before)) (length (c .before .before .before .before .before .before .before .loop .out)) (omega arith)
 
-same-length : tie.Need-same-length Inv-loop μ-loop
-same-length c = search needs
+same-length-2 : tie.Need-same-length-2 Inv-loop μ-loop
+same-length-2 c = search needs
 
-returns : tie.Need-returns Inv-loop μ-loop
-returns c =
-    let k = c .before .before .refused in
-    let u = last (refusedLine (c .before .before .before .before .before .outcome .given .0 .0)) (off (c .before .before .before .before .before)) (c .before .before .before .before .before .before .before .before .before .before .before .before .before .pre .1 .1) (k .ensures .0) (k .ensures .1) in
+returns-2 : tie.Need-returns-2 Inv-loop μ-loop
+returns-2 c =
+    let k = c .before .before .refused2 in
+    let u = last (refusedLine (c .before .before .before .before .before .outcome .given .0 .0)) (off (c .before .before .before .before .before)) (begin (c .before .before .before .before .before .before .before .before .before .before) .pre .1) (k .ensures .0) (k .ensures .1) in
     (end-place u, end-held u)
 
-enum-told : tie.Need-enum-told Inv-loop μ-loop
-enum-told c = search needs
+enum-told-2 : tie.Need-enum-told-2 Inv-loop μ-loop
+enum-told-2 c = search needs
+
+all-shown-requires : tie.Need-all-shown-requires Inv-loop μ-loop
+all-shown-requires c κs = c .before .before .before .interval .ensures .came
 
 rows-requires : tie.Need-rows-requires Inv-loop μ-loop
 rows-requires c κs =
-    let t = c .before .before .before .before .interval .result .tracker in
-    let l = c .before .before .before .before .before .before .before .loop in
-    (c .before .before .before .before .interval .ensures .came, room (joined (eightRows (shownBy t))) (rest (c .before .before .before .before .before .before .before .before .before .before .args .records .now) (l .i + 168) t) (on (c .before .before)) (length (l .out)) (omega arith))
+    let head = c .before .before .before .before .before .before .before .before in
+    let own = joined (eightRows (workedFrom (from head) (upto head))) in
+    let following = rest (from head) (begin head .args .records .now) (head .loop .i + 168) (upto head) in
+    (c .before .all-shown .ensures .0, rw (worked (c .before)) (room own following (on (c .before .before .before)) (length (head .loop .out)) (omega arith)))
 
 loop-less : tie.Need-loop-less Inv-loop μ-loop
 loop-less c = omega arith
@@ -102,18 +154,20 @@ loop-less c = omega arith
 loop-again : tie.Need-loop-again Inv-loop μ-loop
 loop-again c =
     let k = c .before .before .rows in
-    let t = c .before .before .before .before .before .before .before .interval .result .tracker in
-    let l = c .before .before .before .before .before .before .before .before .before .before .loop in
-    let u = step (joined (eightRows (shownBy t))) (rest (c .before .before .before .before .before .before .before .before .before .before .before .before .before .args .records .now) (l .i + 168) t) (on (c .before .before .before .before .before)) (c .before .before .before .before .before .before .before .before .before .before .before .before .before .pre .1 .1) (k .ensures .0) (k .ensures .1) in
-    (omega arith, omega arith, omega (arith, k .kept), c .before .before .before .before .before .before .before .interval .ensures .came, u)
+    let head = c .before .before .before .before .before .before .before .before .before .before .before in
+    let own = joined (eightRows (workedFrom (from head) (upto head))) in
+    let following = rest (from head) (begin head .args .records .now) (head .loop .i + 168) (upto head) in
+    let put = rw (worked (c .before .before .before .before)) at (k .ensures) in
+    let u = step own following (on (c .before .before .before .before .before .before)) (begin head .pre .1) (put .0) (put .1) in
+    (omega arith, omega arith, omega (arith, k .kept), (upto head, call (c .before .before .before .before .before .before .before .before) .ran, u))
 
-same-length-2 : tie.Need-same-length-2 Inv-loop μ-loop
-same-length-2 c = search needs
+same-length-3 : tie.Need-same-length-3 Inv-loop μ-loop
+same-length-3 c = search needs
 
-returns-2 : tie.Need-returns-2 Inv-loop μ-loop
-returns-2 c =
-    let l = c .before .loop in
-    let u = said (rest-none (c .before .before .before .before .args .records .now) (l .i) (l .u) (c .loop-test .left)) (l .inv .4) in
+returns-3 : tie.Need-returns-3 Inv-loop μ-loop
+returns-3 c =
+    let head = c .before in
+    let u = said (rest-none (from head) (begin head .args .records .now) (head .loop .i) (passed head) (c .loop-test .left)) (head .loop .inv .3 .2) in
     (end-place u, end-held u)
 
 pub run-spec : {M : Type 1} → statement M
@@ -122,6 +176,12 @@ run-spec =
     (tie.spec
     Inv-loop
     μ-loop
+    open-requires
+    enum-known-opening
+    refused-requires
+    same-length
+    returns
+    enum-told
     loop-holds
     add-f
     sub-interval
@@ -129,12 +189,13 @@ run-spec =
     part-interval-end
     interval-requires
     enum-known-outcome
-    refused-requires
-    same-length
-    returns
-    enum-told
+    refused-requires-2
+    same-length-2
+    returns-2
+    enum-told-2
+    all-shown-requires
     rows-requires
     loop-less
     loop-again
-    same-length-2
-    returns-2)
+    same-length-3
+    returns-3)

@@ -1,8 +1,6 @@
--- `listing::shown` meets its contract: the row that the call promises.
+-- `listing::shown` meets its contract: what the row call promises, of every opening and list that led to the tracker.
 -- Assumes nothing.
-use mathlib.Core.Path.{ap, subst}
 use borrow.Author.Needs.{needs}
-use Rattle.tracker.specs.Promise.{RowAnswer, RowBounds}
 use Rattle.listing.proofs.shown.Statement.{statement}
 use Rattle.listing.proofs.shown.Tie as tie
 
@@ -11,8 +9,8 @@ row-requires c κs = search needs
 
 returns : tie.Need-returns
 returns c =
-    let k = c .before .row .ensures in
-    (ap (λ a. a .row) (k .is), subst (λ (a : RowAnswer). RowBounds (a .row)) (k .is) (k .bounded))
+    let row = c .before .row .ensures in
+    (row .bounded, λ o calls q. row .claim o calls q (c .before .before .pre .1) .is-worked)
 
 pub shown-spec : {M : Type 1} → statement M
 shown-spec = tie.close (tie.spec row-requires returns)

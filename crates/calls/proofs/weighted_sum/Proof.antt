@@ -1,4 +1,4 @@
--- `calls::weighed` is safe: a byte is below 256 and its place at most 131072, so that the product fits.
+-- `calls::weighted_sum` is safe: a byte is below 256 and its place at most 131072, so that the product fits.
 -- Assumes nothing.
 use Prim.Native.Nat.{ℕ, _+_, _*_, _-_, _≤_, _<_}
 use native.Mathlib.Omega.{arith}
@@ -6,8 +6,8 @@ use borrow.Author.Needs.{needs}
 use native.Mathlib.Nat.{mul-le-mul}
 use mathlib.Core.List.{List}
 use lib.ListN.{length, getD}
-use Rattle.calls.proofs.weighed.Statement.{statement}
-use Rattle.calls.proofs.weighed.Tie as tie
+use Rattle.calls.proofs.weighted_sum.Statement.{statement}
+use Rattle.calls.proofs.weighted_sum.Tie as tie
 
 product : (i : ℕ) (bytes : List ℕ) → i < 131072 → getD bytes i 0 < 256 → (i + 1) * getD bytes i 0 ≤ 131072 * 256
 product i bytes h k = mul-le-mul {n₁ = i + 1} {m₁ = getD bytes i 0} {n₂ = 131072} {m₂ = 256} (omega (arith, h)) (omega (arith, k))
@@ -48,8 +48,8 @@ loop-again c = search needs
 returns : tie.Need-returns Inv-loop μ-loop
 returns c = search needs
 
-pub weighed-spec : {M : Type 1} → statement M
-weighed-spec =
+pub weighted-sum-spec : {M : Type 1} → statement M
+weighted-sum-spec =
     tie.close
     (tie.spec
     Inv-loop
