@@ -11,17 +11,14 @@ use lib.Dec.{ltb, eqb}
 use lib.ListN.{length, drop, replicate, length-append}
 use lib.Seq.{drop-append-seam}
 use Rattle.text.specs.Text.{littleOf}
-use Rattle.tracker.proofs.Promise.{number-met}
+use Rattle.tracker.proofs.Promise.{number-met, numbers}
 use Rattle.journal.specs.declared.Found.{Found}
 use Rattle.journal.specs.declared.Found.the-variants.{Journal, Refused}
 use Rattle.journal.specs.declared.Written.{Written}
 use Rattle.journal.specs.declared.Written.the-variants.{Bytes, Refused as NotWritten}
-use Rattle.journal.specs.Journal.{Outcome, Accepted, RefusedBy, Condition, judged, numberOf, numberMet, u32At, countOf, firstOf, lastOf, inOrderTo, count, distance, part, badLength, badTrailer, badNumbers, readConditions, readOutcome, readOf, foundNumber, foundValues, recordsBy, recordsOf, trailerOf, journalOf, badRecords, writeConditions, writeOutcome, writtenOf, writtenNumber, writtenValues, bufferBy, bufferOf}
+use Rattle.journal.specs.Journal.{Outcome, Accepted, RefusedBy, judged, numberOf, numberMet, u32At, countOf, firstOf, lastOf, inOrderTo, count, distance, part, badLength, badTrailer, badNumbers, readConditions, readOutcome, readOf, foundNumber, foundValues, recordsBy, recordsOf, trailerOf, journalOf, badRecords, writeConditions, writeOutcome, writtenOf, writtenNumber, writtenValues, bufferBy, bufferOf}
 
 -- ---- numbers and values, as document 01 writes them
-abbrev numbers : List Condition → List ℕ
-numbers = map (λ (c : Condition). c .number)
-
 -- Journal read: 11; 12; 13; 14.
 pub read-numbers : (s : List ℕ) → numbers (readConditions s) ≡ 11 ∷ 12 ∷ 13 ∷ 14 ∷ []
 unfolding readConditions
@@ -45,7 +42,7 @@ refused-read k = refl
 pub refused-write : (k : ℕ) → writeSays (NotWritten k) ≡ (some k, [])
 refused-write k = refl
 
--- an acceptance has none, but values.
+-- and an acceptance has no number, but values.
 pub accepted-read : readSays (Journal 2 5 6) ≡ (none, 2 ∷ 5 ∷ 6 ∷ [])
 accepted-read = refl
 
@@ -85,7 +82,7 @@ write-mended = refl
 
 -- ---- each fault, and at a limit what is still allowed and the first that is not
 module _ (s : List ℕ) where
-  -- 11 length below 16 or above 65,536;
+  -- Number 11, length below 16 or above 65,536, at each limit;
   pub length-15 : length s ≡ 15 → badLength s ≡ true
   unfolding badLength
   length-15 l = rw l
@@ -102,7 +99,7 @@ module _ (s : List ℕ) where
   unfolding badLength
   length-65537 l = rw l
 
-  -- whatever else is wrong.
+  -- and whatever else is wrong.
   pub too-short : length s < 16 → readOf s ≡ Refused 11
   unfolding badLength readConditions readOutcome readOf
   too-short l = rw (lt-ltb (length s) 16 l)
@@ -111,7 +108,7 @@ module _ (s : List ℕ) where
   unfolding badLength readConditions readOutcome readOf
   too-long l = rw (lt-ltb 65536 (length s) l, or-true (ltb (length s) 16))
 
-  -- 12 count above 288, or preface above 1,024: with both at their limit a journal has 49,424 bytes;
+  -- Number 12, count above 288, or preface above 1,024: with both at their limit a journal has 49,424 bytes.
   pub count-289 : count s ≡ 289 → badTrailer s ≡ true
   unfolding badTrailer
   count-289 c = rw c
@@ -124,12 +121,12 @@ module _ (s : List ℕ) where
   unfolding badTrailer
   preface-1025 c d l = rw (c, d, l)
 
--- or distance + 16 above the length;
+-- Number 12, distance + 16 above the length.
 pub misplaced : readOf (journalAt (5 ∷ []) 2 336 5 6) ≡ Refused 12
 unfolding u32At badLength badTrailer readConditions readOutcome readOf
 misplaced = refl
 
--- 13 trailer numbers not those of the records, or not 0 when empty;
+-- Number 13, trailer numbers not those of the records, or not 0 when empty.
 pub misnumbered : map readOf
     (journalAt (5 ∷ 6 ∷ []) 2 336 6 6
     ∷ journalAt (5 ∷ 6 ∷ []) 2 336 5 5
@@ -141,14 +138,14 @@ pub misnumbered : map readOf
 unfolding u32At firstOf lastOf inOrderTo part badLength badTrailer badNumbers readConditions readOutcome readOf
 misnumbered = refl
 
--- 14 a record's n not one more than the last one's, wherever it stands.
+-- Number 14, a record's n not one more than the last one's, wherever it stands.
 pub disordered : map (λ ns. writtenOf (recordsAt ns) 520)
     ((5 ∷ 5 ∷ 6 ∷ []) ∷ (5 ∷ 6 ∷ 6 ∷ []) ∷ (5 ∷ 6 ∷ 8 ∷ []) ∷ (7 ∷ 6 ∷ 5 ∷ []) ∷ (5 ∷ 6 ∷ 7 ∷ []) ∷ [])
     ≡ NotWritten 14 ∷ NotWritten 14 ∷ NotWritten 14 ∷ NotWritten 14 ∷ Bytes 520 ∷ []
 unfolding u32At inOrderTo badRecords writeConditions writeOutcome writtenOf
 disordered = refl
 
--- 15 above 288 records, whatever else is wrong.
+-- Number 15, above 288 records, whatever else is wrong.
 module _ (r : List ℕ) where
   pub records-288 : length r ≡ 48384 → badRecords r ≡ false
   unfolding badRecords

@@ -79,7 +79,7 @@ module _ (o : Opening) (r : List ℕ) (i : ℕ) (passed : List (List ℕ)) (h : 
       let n : (length r - i) / 168 ≡ suc ((length r - (i + 168)) / 168) = omega arith in
       let k : i + 168 - i ≡ 168 = omega arith in
       let taken : take 168 (drop i r) ≡ b = sym (is ∙ ap (λ (k : ℕ). take k (drop i r)) k) in
-      rw (n, taken, drop-drop 168 i r, sym (call .number) ∙ e)
+      rw (n, taken, drop-drop 168 i r, sym (call .number) ∙ e) refl
 
   pub go-on : a .outcome ≡ Accepted → rest o r i passed ≡ joined (eightRows (workedFrom o upto)) ++ rest o r (i + 168) upto
   go-on e = turn (ap numberOf e) ∙ joined-append (eightRows (workedFrom o upto)) (runLines o ((length r - (i + 168)) / 168) upto (drop (i + 168) r))

@@ -102,7 +102,7 @@ row-promise t came d e =
       is = refl;
       number = number-met (rowConditions d);
       bounded = row-bounded t came d;
-      claim = λ o calls q l. rw (row-shown t d l) (rules.claim t o calls q .each d l);
+      claim = λ o calls q l. let m : d < 8 = omega arith in rw (row-shown t d m) (rules.claim t o calls q .each d m);
     })
 
 -- A row has the direction asked for.
@@ -110,7 +110,7 @@ pub row-direction : {t : Tracker} {d : ℕ} {r : RowAnswer} → Came t → RowPr
 row-direction {d = d} came row l =
     let o = came .opening in
     let calls = came .calls in
-    ap (λ (x : Row). x .direction) (row .claim o calls (came .is) l .is-worked) ∙ worked-direction (firstOf o) d (history o d (accepted o calls))
+    ap (λ (x : Row). x .direction) (row .claim o calls (came .is) (omega arith) .is-worked) ∙ worked-direction (firstOf o) d (history o d (accepted o calls))
 
 -- After an accepted call a row has the n that was awaited. (The next awaited number is one more: awaits-one-more.)
 pub row-number : {t : Tracker} {b : List ℕ} {a : Answer} {d : ℕ} {r : RowAnswer} (o : Opening) (calls : List (List ℕ))
@@ -122,7 +122,7 @@ pub row-number : {t : Tracker} {b : List ℕ} {a : Answer} {d : ℕ} {r : RowAns
     → r .row .n ≡ awaitedFrom o calls
 row-number {b = b} {d = d} o calls q call ok row l =
     let after = call .call o calls q in
-    ap (λ (x : Row). x .n) (row .claim o (calls ++ (b ∷ [])) (after .ran) l .is-worked) ∙ shows-awaited o calls b (sym (after .outcome) ∙ ok) d
+    ap (λ (x : Row). x .n) (row .claim o (calls ++ (b ∷ [])) (after .ran) (omega arith) .is-worked) ∙ shows-awaited o calls b (sym (after .outcome) ∙ ok) d
 
 -- Every row that is worked out from an opening and a list of calls is bounded.
 pub worked-bounds : (o : Opening) (calls : List (List ℕ)) (d : ℕ) → d < 8 → RowBounds (workedFrom o calls d)
