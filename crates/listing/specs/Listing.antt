@@ -59,6 +59,7 @@ openedAt first = opening first (replicate 6 500)
 abbrev pub openingNumber : Opening → Option ℕ
 openingNumber o = numberMet (openConditions (o .first) (o .shares))
 
+-- After the opening: what the records give, or its number.
 unfoldable pub openedLines : ℕ → List ℕ → List (List ℕ)
 openedLines first r =
     let o = openedAt first in

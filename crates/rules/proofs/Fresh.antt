@@ -37,16 +37,19 @@ unfolding residueOf clearsAt flagOf nextOf stepOf u32At i32At prices lines ahead
 amount-by-share = (refl, refl)
 
 -- ---- a fresh tracker
+abbrev noCents : Cents
+noCents = cents (pos 0)
+
 -- Fresh: zeros, no period, clamp 2,000,000 (swamped), not suspended; its row has flag 1.
 abbrev freshDirection : Direction
 freshDirection = record {
-  sums = record { previous = cents (pos 0); current = cents (pos 0); net = cents (pos 0) };
+  sums = record { previous = noCents; current = noCents; net = noCents };
   period = None;
   clamp = hundredths (pos 2000000);
   counts = record { unbound = 0; violated = 0 };
   suspended = false;
-  residue = cents (pos 0);
-  next = cents (pos 0);
+  residue = noCents;
+  next = noCents;
   blocked = false;
   flag = true;
   notice = 0;
@@ -80,13 +83,13 @@ abbrev pub rowOfZeros : ℕ → ℕ → Bool → Hundredths → Row
 rowOfZeros n d flag clamp = record {
   n = n;
   direction = d;
-  residue = cents (pos 0);
+  residue = noCents;
   applies = false;
-  previous = cents (pos 0);
-  current = cents (pos 0);
-  amount = cents (pos 0);
-  next = cents (pos 0);
-  net = cents (pos 0);
+  previous = noCents;
+  current = noCents;
+  amount = noCents;
+  next = noCents;
+  net = noCents;
   period = None;
   counts = record { unbound = 0; violated = 0 };
   blocked = false;
