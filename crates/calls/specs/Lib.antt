@@ -1,2 +1,2 @@
--- What a call of a script refers to.
-pub mod Script
+-- What the code of this crate needs beyond the rules.
+pub mod Internal

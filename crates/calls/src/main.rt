@@ -1,30 +1,27 @@
 // Runs scripts of calls through the library, each on one tracker: for each script its name, and a line for each call with its answer. The
 // gate compares what is printed with stored answers. The arguments are two files a script: its calls, and the records that they refer to.
-use journal::Found;
-use journal::Written;
+use journal::TRAILER;
+use journal_rules::Found;
+use journal_rules::Written;
 use libc::STDOUT_FILENO;
 use report::print_number;
 use rules::Outcome;
 use rules::Tracker;
 ghost use mathlib.Core.Path.{_≡_};
 ghost use Prim.Native.Nat.{_<_, _≤_};
-ghost use lib.Dec.{leb};
 ghost use lib.ListN.{length};
 ghost use Rattle.tracker.specs.Promise.{Came};
-ghost use Rattle.calls.specs.Script.{wordOf, partEnd};
+ghost use Rattle.calls.specs.Internal.{callWords, callLength, longest, wordOf, partEnd};
 
-// A call is 52 words of four bytes: its kind, its numbers, zeros.
+// The length of a call: 52 words of four bytes.
 const CALL: usize = 208;
-
-// What stands after the records in a journal.
-const TRAILER: usize = 16;
 
 // More than any script, and any buffer that it writes to, is long.
 const LONGEST: usize = 131072;
 
 // Word k of a call.
 fn word(call: &[u8], k: usize) -> u32
-    requires { ⌜ (length (now call) ≡ 208) × (k < 52) ⌝ }
+    requires { ⌜ (length (now call) ≡ callLength) × (k < callWords) ⌝ }
     ensures { λ r. ⌜ r ≡ wordOf (now (call .entry)) k ⌝ }
 {
     words::u32_at(call, 4 * k)
@@ -43,43 +40,40 @@ fn print_outcome(outcome: Outcome, end: u8) {
     }
 }
 
-// A part of the records is told by AT, where it begins, and LEN, how long it is: the first two numbers of a call. Is it there?
-fn has_part(call: &[u8], records: &[u8]) -> bool
-    requires { ⌜ length (now call) ≡ 208 ⌝ }
-    ensures { λ r. ⌜ r ≡ leb (partEnd (now (call .entry))) (length (now (records .entry))) ⌝ }
+// The first two numbers of a call tell a part of the records: AT, where it begins, and LEN, how long it is. This is where it ends.
+fn part_end(call: &[u8]) -> usize
+    requires { ⌜ length (now call) ≡ callLength ⌝ }
+    ensures { λ r. ⌜ r ≡ partEnd (now (call .entry)) ⌝ }
 {
-    word(call, 1) as usize + word(call, 2) as usize <= records.len()
+    word(call, 1) as usize + word(call, 2) as usize
 }
 
 fn part<'a>(call: &[u8], records: &'a [u8]) -> &'a [u8]
-    requires { ⌜ (length (now call) ≡ 208) × (partEnd (now call) ≤ length (now records)) ⌝ }
+    requires { ⌜ (length (now call) ≡ callLength) × (partEnd (now call) ≤ length (now records)) ⌝ }
 {
     let at = word(call, 1) as usize;
-    let end = at + word(call, 2) as usize;
+    let end = part_end(call);
     &records[at..end]
 }
 
-// Is every share of an opening a u16, as the library takes it?
+// Is every share of an opening a u16, as the library takes it? Then none of them has a bit above the low sixteen.
 fn shares_fit(call: &[u8]) -> bool
-    requires { ⌜ length (now call) ≡ 208 ⌝ }
+    requires { ⌜ length (now call) ≡ callLength ⌝ }
 {
-    for i in 2..8 {
-        if 65535 < word(call, i) {
-            return false;
-        }
-    }
-    true
+    let earlier = word(call, 2) | word(call, 3) | word(call, 4);
+    let later = word(call, 5) | word(call, 6) | word(call, 7);
+    earlier | later <= 65535
 }
 
 fn share(call: &[u8], k: usize) -> u16
-    requires { ⌜ (length (now call) ≡ 208) × (k < 52) ⌝ }
+    requires { ⌜ (length (now call) ≡ callLength) × (k < callWords) ⌝ }
 {
     (word(call, k) % 65536) as u16
 }
 
 // open FIRST S0 .. S5: a refused opening too goes on with the tracker beside it.
 fn open(t: Tracker, call: &[u8]) -> Tracker
-    requires { ⌜ Came t × (length (now call) ≡ 208) ⌝ }
+    requires { ⌜ Came t × (length (now call) ≡ callLength) ⌝ }
     ensures { λ r. ⌜ Came r ⌝ }
 {
     if shares_fit(call) {
@@ -102,10 +96,10 @@ fn open(t: Tracker, call: &[u8]) -> Tracker
 
 // interval AT LEN
 fn interval(t: Tracker, call: &[u8], records: &[u8]) -> Tracker
-    requires { ⌜ Came t × (length (now call) ≡ 208) ⌝ }
+    requires { ⌜ Came t × (length (now call) ≡ callLength) ⌝ }
     ensures { λ r. ⌜ Came r ⌝ }
 {
-    if has_part(call, records) {
+    if part_end(call) <= records.len() {
         let a = tracker::interval(t, part(call, records));
         let outcome = a.outcome;
         print_outcome(outcome, b'\n');
@@ -117,7 +111,7 @@ fn interval(t: Tracker, call: &[u8], records: &[u8]) -> Tracker
 
 // row D
 fn row(t: Tracker, call: &[u8])
-    requires { ⌜ Came t × (length (now call) ≡ 208) ⌝ }
+    requires { ⌜ Came t × (length (now call) ≡ callLength) ⌝ }
 {
     let a = tracker::row(t, word(call, 1) as usize);
     let outcome = a.outcome;
@@ -150,8 +144,9 @@ fn print_place(journal: &[u8], records: &[u8]) {
 
 fn print_found(journal: &[u8]) {
     let found = journal::read(journal);
+    let records = journal::found_records(journal, found);
     match found {
-        Found::Journal(count, first, last) => {
+        Found::Journal { count, first, last } => {
             print_number(0, b' ');
             print_number(count as u64, b' ');
             print_number(first as u64, b' ');
@@ -162,14 +157,14 @@ fn print_found(journal: &[u8]) {
             io::write_all(STDOUT_FILENO, b"0 0 0 ");
         }
     }
-    print_place(journal, journal::records(journal));
+    print_place(journal, records);
 }
 
 // read AT LEN
 fn read(call: &[u8], records: &[u8])
-    requires { ⌜ length (now call) ≡ 208 ⌝ }
+    requires { ⌜ length (now call) ≡ callLength ⌝ }
 {
-    if has_part(call, records) {
+    if part_end(call) <= records.len() {
         print_found(part(call, records));
         return;
     }
@@ -178,7 +173,7 @@ fn read(call: &[u8], records: &[u8])
 
 // The sum of (i + 1) × byte i, modulo 2^32: it tells a changed byte and a moved one.
 fn weighted_sum(bytes: &[u8]) -> u64
-    requires { ⌜ length (now bytes) ≤ 131072 ⌝ }
+    requires { ⌜ length (now bytes) ≤ longest ⌝ }
 {
     let mut sum = 0;
     let mut i = 0;
@@ -191,7 +186,7 @@ fn weighted_sum(bytes: &[u8]) -> u64
 
 // The journal of these records, written into the buffer, and all bytes of the buffer afterwards.
 fn print_written(records: &[u8], out: &mut [u8])
-    requires { ⌜ length (now out) ≤ 131072 ⌝ }
+    requires { ⌜ length (now out) ≤ longest ⌝ }
 {
     let written = journal::write(records, out);
     match written {
@@ -209,23 +204,30 @@ fn print_written(records: &[u8], out: &mut [u8])
 
 // A buffer as it is before a write: not zeros, so that bytes that a write leaves alone are seen. Its length is told, so that it may be cut.
 fn filled() -> [u8; LONGEST]
-    ensures { λ r. ⌜ 131072 ≡ length r ⌝ }
+    ensures { λ r. ⌜ longest ≡ length r ⌝ }
 {
     [0xA5; LONGEST]
 }
 
+// A write of these records into a buffer of this length.
+fn write_records(records: &[u8], room: usize)
+    requires { ⌜ room ≤ longest ⌝ }
+{
+    let mut out = filled();
+    print_written(records, &mut out[..room]);
+}
+
 // write AT LEN ROOM
 fn write(call: &[u8], records: &[u8])
-    requires { ⌜ length (now call) ≡ 208 ⌝ }
+    requires { ⌜ length (now call) ≡ callLength ⌝ }
 {
     let room = word(call, 3) as usize;
     if LONGEST < room {
         no_call();
         return;
     }
-    if has_part(call, records) {
-        let mut out = filled();
-        print_written(part(call, records), &mut out[..room]);
+    if part_end(call) <= records.len() {
+        write_records(part(call, records), room);
         return;
     }
     no_call();
@@ -233,7 +235,7 @@ fn write(call: &[u8], records: &[u8])
 
 // One call, by its kind. What may change the tracker gives the next one.
 fn run_call(t: Tracker, call: &[u8], records: &[u8]) -> Tracker
-    requires { ⌜ Came t × (length (now call) ≡ 208) ⌝ }
+    requires { ⌜ Came t × (length (now call) ≡ callLength) ⌝ }
     ensures { λ r. ⌜ Came r ⌝ }
 {
     match word(call, 0) {

@@ -1,13 +1,12 @@
 // Runs journals through the library: for each file named as an argument its name, its listing, and all eight rows after each interval.
 // The gate compares what is printed with stored listings and rows.
-use journal::Found;
+use journal::LONGEST_JOURNAL;
+use journal_rules::Found;
 use libc::STDOUT_FILENO;
 use rules::Outcome;
+use rules::RECORD;
 use rules::Tracker;
 ghost use Rattle.tracker.specs.Promise.{Came};
-
-// The longest listing.
-const ROOM: usize = 218942;
 
 // The eight rows of a tracker.
 fn print_rows(t: Tracker)
@@ -25,8 +24,8 @@ fn run(t: Tracker, records: &[u8])
 {
     let mut now = t;
     let mut at = 0;
-    while records.len() - at >= 168 {
-        let end = at + 168;
+    while records.len() - at >= RECORD {
+        let end = at + RECORD;
         let a = tracker::interval(now, &records[at..end]);
         let outcome = a.outcome;
         match outcome {
@@ -53,7 +52,13 @@ fn print_rows_of(bytes: &[u8]) {
         b"unbound,violated,blocked,flag,clamp,notice\n",
     );
     let found = journal::read(bytes);
-    let Found::Journal(count, first, _) = found else {
+    let records = journal::found_records(bytes, found);
+    let Found::Journal {
+        count,
+        first,
+        last: _,
+    } = found
+    else {
         if let Found::Refused(number) = found {
             report::print_refusal(number);
         }
@@ -68,13 +73,13 @@ fn print_rows_of(bytes: &[u8]) {
         report::print_refusal(number);
         return;
     }
-    run(a.tracker, journal::records(bytes));
+    run(a.tracker, records);
 }
 
 // The listing, with buffers as clampday has them.
 fn print_listing(i: usize) {
-    let mut input = [0u8; 65536];
-    let mut out = [0u8; ROOM];
+    let mut input = [0u8; LONGEST_JOURNAL];
+    let mut out = [0u8; listing::ROOM];
     let file = report::open_argument(i);
     listing::print_listing(file, &mut input, &mut out);
     libc::close(file);
@@ -82,7 +87,7 @@ fn print_listing(i: usize) {
 
 // All eight rows after each interval. A byte more than clampday's buffer is read, so that what is too long is seen to be.
 fn print_all_rows(i: usize) {
-    let mut input = [0u8; 65537];
+    let mut input = [0u8; LONGEST_JOURNAL + 1];
     let n = report::read_argument(i, &mut input);
     print_rows_of(&input[..n]);
 }

@@ -1,2 +1,2 @@
--- What the contracts of the crate cite beyond the rules.
-pub mod Event
+-- What the code of this crate needs beyond the rules.
+pub mod Internal

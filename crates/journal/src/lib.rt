@@ -1,30 +1,26 @@
 // The journal: records end to end with a trailer. A read checks all of it and says what it holds; a write makes one. Every call takes any
 // bytes: what document 01 refuses comes back as its number. What a read and a write return, for every input, is in specs/Promise.
+use journal_rules::Found;
+use journal_rules::Written;
 use rules::Outcome;
+use rules::RECORD;
 ghost use mathlib.Core.Path.{_≡_};
 ghost use Prim.Native.Nat.{_+_, _*_, _<_, _≤_};
 ghost use lib.ListN.{length};
-ghost use Rattle.text.specs.Text.{over};
-ghost use Rattle.journal.specs.Journal.{numberAt, firstOf, lastOf, follows, inOrder, trailer, part, badLength, badTrailer, badNumbers, badRecords, readOutcome, recordsOf, journalOf, writeOutcome};
-ghost use Rattle.journal.specs.Shape.{Shaped, Whole};
-ghost use Rattle.journal.specs.Promise.{ReadPromise, WritePromise};
+ghost use Rattle.words.specs.Buffer.{over};
+ghost use Rattle.journal_rules.specs.Journal.{recordLength, trailerLength, numberAt, firstNumber, lastNumber, inOrder, trailerWord, part, badLength, badTrailer, badNumbers, badRecords, readOutcome, readOf, recordsOf, journalOf, writeOutcome};
+ghost use Rattle.journal_rules.specs.Internal.{Shaped, Whole};
+ghost use Rattle.journal_rules.specs.Promise.{ReadPromise, WritePromise};
 
-// What a read gives: count, first n and last n, or a refusal's number.
-pub enum Found {
-    Journal(u32, u32, u32),
-    Refused(u8),
-}
+// The length of a trailer.
+pub const TRAILER: usize = 16;
 
-// What a write gives: the number of bytes written, or a refusal's number.
-pub enum Written {
-    Bytes(usize),
-    Refused(u8),
-}
+// The most records that a journal holds, the longest preface before them, and the longest journal.
+const MOST_RECORDS: usize = 288;
 
-// The length of a record, and of a trailer.
-const RECORD: usize = 168;
+const LONGEST_PREFACE: usize = 1024;
 
-const TRAILER: usize = 16;
+pub const LONGEST_JOURNAL: usize = 65536;
 
 // The trailer's words, in their order.
 const COUNT: usize = 0;
@@ -37,14 +33,14 @@ const LAST: usize = 3;
 
 // The n of record i, which a record starts with.
 fn number_at(records: &[u8], i: usize) -> u32
-    requires { ⌜ 168 * i + 4 ≤ length (now records) ⌝ }
+    requires { ⌜ recordLength * i + 4 ≤ length (now records) ⌝ }
     ensures { λ r. ⌜ r ≡ numberAt (now (records .entry)) i ⌝ }
 {
     words::u32_at(records, RECORD * i)
 }
 
-fn first_of(records: &[u8]) -> u32
-    ensures { λ r. ⌜ r ≡ firstOf (now (records .entry)) ⌝ }
+fn first_number(records: &[u8]) -> u32
+    ensures { λ r. ⌜ r ≡ firstNumber (now (records .entry)) ⌝ }
 {
     if records.len() / RECORD == 0 {
         return 0;
@@ -52,8 +48,8 @@ fn first_of(records: &[u8]) -> u32
     number_at(records, 0)
 }
 
-fn last_of(records: &[u8]) -> u32
-    ensures { λ r. ⌜ r ≡ lastOf (now (records .entry)) ⌝ }
+fn last_number(records: &[u8]) -> u32
+    ensures { λ r. ⌜ r ≡ lastNumber (now (records .entry)) ⌝ }
 {
     let count = records.len() / RECORD;
     if count == 0 {
@@ -62,21 +58,16 @@ fn last_of(records: &[u8]) -> u32
     number_at(records, count - 1)
 }
 
-// In u64, where one more than the highest n is no n.
-fn follows(a: u32, b: u32) -> bool
-    ensures { λ r. ⌜ r ≡ follows a b ⌝ }
-{
-    b as u64 == a as u64 + 1
-}
-
-// For both refusals 14, of a read and of a write.
+// For both refusals 14, of a read and of a write. In u64, where one more than the highest n is no n.
 fn in_order(records: &[u8]) -> bool
     ensures { λ r. ⌜ r ≡ inOrder (now (records .entry)) ⌝ }
 {
     let count = records.len() / RECORD;
     let mut i = 0;
     while i + 1 < count {
-        if !follows(number_at(records, i), number_at(records, i + 1)) {
+        let n = number_at(records, i) as u64;
+        let next = number_at(records, i + 1) as u64;
+        if next != n + 1 {
             return false;
         }
         i += 1;
@@ -85,9 +76,9 @@ fn in_order(records: &[u8]) -> bool
 }
 
 // Word k of the trailer.
-fn trailer(journal: &[u8], k: usize) -> u32
-    requires { ⌜ (16 ≤ length (now journal)) × (k < 4) ⌝ }
-    ensures { λ r. ⌜ r ≡ trailer (now (journal .entry)) k ⌝ }
+fn trailer_word(journal: &[u8], k: usize) -> u32
+    requires { ⌜ (trailerLength ≤ length (now journal)) × (k < 4) ⌝ }
+    ensures { λ r. ⌜ r ≡ trailerWord (now (journal .entry)) k ⌝ }
 {
     words::u32_at(journal, journal.len() - TRAILER + 4 * k)
 }
@@ -98,27 +89,26 @@ fn bad_length(journal: &[u8]) -> bool
     if journal.len() < TRAILER {
         return true;
     }
-    65536 < journal.len()
+    LONGEST_JOURNAL < journal.len()
 }
 
 // Where the trailer says that the records are: only then may `part` go there.
 fn bad_trailer(journal: &[u8]) -> bool
-    requires { ⌜ 16 ≤ length (now journal) ⌝ }
+    requires { ⌜ trailerLength ≤ length (now journal) ⌝ }
     ensures { λ r. ⌜ r ≡ badTrailer (now (journal .entry)) ⌝ }
 {
-    let count = trailer(journal, COUNT);
-    if 288 < count {
+    let count = trailer_word(journal, COUNT) as usize;
+    if MOST_RECORDS < count {
         return true;
     }
-    let distance = trailer(journal, DISTANCE);
-    if distance != 168 * count {
+    let distance = trailer_word(journal, DISTANCE) as usize;
+    if distance != RECORD * count {
         return true;
     }
-    let back = distance as usize;
-    if journal.len() < back + TRAILER {
+    if journal.len() < distance + TRAILER {
         return true;
     }
-    1024 < journal.len() - TRAILER - back
+    LONGEST_PREFACE < journal.len() - TRAILER - distance
 }
 
 // The part of the journal that holds the records.
@@ -127,7 +117,7 @@ fn part(journal: &[u8]) -> &[u8]
     ensures { λ r. ⌜ now r ≡ part (now (journal .entry)) ⌝ }
 {
     let end = journal.len() - TRAILER;
-    let start = end - trailer(journal, DISTANCE) as usize;
+    let start = end - trailer_word(journal, DISTANCE) as usize;
     &journal[start..end]
 }
 
@@ -135,10 +125,10 @@ fn part(journal: &[u8]) -> &[u8]
 fn bad_numbers(first: u32, last: u32, records: &[u8]) -> bool
     ensures { λ r. ⌜ r ≡ badNumbers first last (now (records .entry)) ⌝ }
 {
-    if first != first_of(records) {
+    if first != first_number(records) {
         return true;
     }
-    last != last_of(records)
+    last != last_number(records)
 }
 
 // The first condition that is met gives the number.
@@ -151,14 +141,13 @@ fn read_outcome(journal: &[u8]) -> Outcome
     if bad_trailer(journal) {
         return Outcome::Refused(12);
     }
-    if bad_numbers(
-        trailer(journal, FIRST),
-        trailer(journal, LAST),
-        part(journal),
-    ) {
+    let first = trailer_word(journal, FIRST);
+    let last = trailer_word(journal, LAST);
+    let records = part(journal);
+    if bad_numbers(first, last, records) {
         return Outcome::Refused(13);
     }
-    if !in_order(part(journal)) {
+    if !in_order(records) {
         return Outcome::Refused(14);
     }
     Outcome::Accepted
@@ -171,13 +160,29 @@ pub fn read(journal: &[u8]) -> Found
     let outcome = read_outcome(journal);
     match outcome {
         Outcome::Accepted => {
-            Found::Journal(
-                trailer(journal, COUNT),
-                trailer(journal, FIRST),
-                trailer(journal, LAST),
-            )
+            Found::Journal {
+                count: trailer_word(journal, COUNT),
+                first: trailer_word(journal, FIRST),
+                last: trailer_word(journal, LAST),
+            }
         }
         Outcome::Refused(k) => Found::Refused(k),
+    }
+}
+
+// The records of a journal that has been read: the part of it that holds them; of length 0 where the read was refused. It is for crates
+// that have what the read gave, and judges nothing again; outside, `records` is offered.
+pub fn found_records(journal: &[u8], found: Found) -> &[u8]
+    requires { ⌜ found ≡ readOf (now journal) ⌝ }
+    ensures { λ r. ⌜ now r ≡ recordsOf (now (journal .entry)) ⌝ }
+{
+    match found {
+        Found::Journal {
+            count: _,
+            first: _,
+            last: _,
+        } => part(journal),
+        Found::Refused(_) => &journal[..0],
     }
 }
 
@@ -185,11 +190,7 @@ pub fn read(journal: &[u8]) -> Found
 pub fn records(journal: &[u8]) -> &[u8]
     ensures { λ r. ⌜ now r ≡ recordsOf (now (journal .entry)) ⌝ }
 {
-    let outcome = read_outcome(journal);
-    match outcome {
-        Outcome::Accepted => part(journal),
-        Outcome::Refused(_) => &journal[0..0],
-    }
+    found_records(journal, read(journal))
 }
 
 fn bad_records(records: &[u8]) -> bool
@@ -198,7 +199,7 @@ fn bad_records(records: &[u8]) -> bool
     if records.len() % RECORD != 0 {
         return true;
     }
-    288 < records.len() / RECORD
+    MOST_RECORDS < records.len() / RECORD
 }
 
 // All is checked here, before the first byte is written.
@@ -224,11 +225,11 @@ fn fill(records: &[u8], out: &mut [u8]) -> usize
     ensures { λ r. ⌜ now (out .exit) ≡ over (journalOf (now (records .entry))) (now (out .entry)) ⌝ }
 {
     let distance = records.len();
-    let a = text::text(records, out, 0);
-    let b = text::word((distance / RECORD) as u32, out, a);
-    let c = text::word(distance as u32, out, b);
-    let d = text::word(first_of(records), out, c);
-    text::word(last_of(records), out, d)
+    let a = words::put_bytes(records, out, 0);
+    let b = words::put_u32((distance / RECORD) as u32, out, a);
+    let c = words::put_u32(distance as u32, out, b);
+    let d = words::put_u32(first_number(records), out, c);
+    words::put_u32(last_number(records), out, d)
 }
 
 // A journal of these records, at the start of the buffer; the bytes after it keep their values, and on a refusal all do.

@@ -1,8 +1,7 @@
--- How long lines and listings are, lines put end to end, and the figures.
-pub mod Bound
-mod Cells
-pub mod Figures
-mod Joins
-mod Numbers
-pub mod Total
-mod Whole
+-- How long lines and listings are, which lines each case gives, and examples.
+mod EightDirections
+pub mod Examples
+pub mod LineLength
+mod LinesByCase
+pub mod ListingLength
+mod RefusalNumbers

@@ -1,4 +1,4 @@
 -- The listing, in document 01's words.
 pub mod Line
 pub mod Listing
-pub mod Table
+pub mod Internal

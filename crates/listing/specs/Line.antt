@@ -1,11 +1,11 @@
 -- Document 01, `clampday`: a row as a line of the listing, and which rows are printed.
 use mathlib.Core.Bool.{Bool, cond, _||_}
-use mathlib.Core.List.{List, [], _∷_, _++_}
+use mathlib.Core.List.{List, [], _∷_, _++_, flatten}
 use Prim.Native.Nat.{ℕ}
 use Prim.Native.String.{String}
 use lib.ListN.{getD}
 use Rattle.text.specs.Ascii.{ascii}
-use Rattle.text.specs.Text.{countOf, cellOf}
+use Rattle.text.specs.Text.{numberCell, signedCell}
 use Rattle.tracker.specs.Promise.{negative, Row}
 
 -- Direction 2c is From_To of corridor c, 2c+1 is To_From.
@@ -26,29 +26,24 @@ nameOf d = ascii (getD names d "") ++ (comma ∷ [])
 abbrev pub mark : Bool → ℕ
 mark b = cond b 1 0
 
--- Cells, and lines, end to end.
-unfoldable pub joined : List (List ℕ) → List ℕ
-joined [] = []
-joined (x ∷ xs) = x ++ joined xs
-
--- interval,direction,applies,amount,previous,current,next,clamp: amounts are in cents, the clamp in hundredths.
+-- interval,direction,applies,amount,previous,current,next,clamp: cells end to end. Amounts are in cents, the clamp in hundredths.
 abbrev pub amountCells : Row → List (List ℕ)
-amountCells r = cellOf (r .amount .0) comma ∷ cellOf (r .previous .0) comma ∷ cellOf (r .current .0) comma ∷ cellOf (r .next .0) comma ∷ []
+amountCells r = signedCell (r .amount .0) comma ∷ signedCell (r .previous .0) comma ∷ signedCell (r .current .0) comma ∷ signedCell (r .next .0) comma ∷ []
 
 unfoldable pub amountsOf : Row → List ℕ
-amountsOf r = joined (amountCells r)
+amountsOf r = flatten (amountCells r)
 
 abbrev pub lineCells : Row → List (List ℕ)
 lineCells r =
-    countOf (r .n) comma
+    numberCell (r .n) comma
     ∷ nameOf (r .direction)
-    ∷ countOf (mark (r .applies)) comma
+    ∷ numberCell (mark (r .applies)) comma
     ∷ amountsOf r
-    ∷ cellOf (r .clamp .0) newline
+    ∷ signedCell (r .clamp .0) newline
     ∷ []
 
 unfoldable pub lineOf : Row → List ℕ
-lineOf r = joined (lineCells r)
+lineOf r = flatten (lineCells r)
 
 -- Printed are rows where amount or next is negative or applies is 1.
 unfoldable pub listedOf : Row → Bool

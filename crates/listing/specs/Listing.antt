@@ -1,19 +1,19 @@
 -- Document 01, `clampday`: the listing of its input, line by line, from the opening and the records alone. Nothing here reads a tracker.
 -- A read's variant Refused is NotRead here.
 use mathlib.Core.Bool.{Bool, cond}
-use mathlib.Core.List.{List, [], _∷_, _++_}
+use mathlib.Core.List.{List, [], _∷_, _++_, map, flatten}
 use mathlib.Core.Option.{Option, none, some}
-use Prim.Native.Nat.{ℕ, zero, suc}
+use Prim.Native.Nat.{ℕ, zero, suc, _+_, _*_}
 use lib.Dec.{eqb}
 use lib.ListN.{length, take, drop, replicate}
 use Rattle.text.specs.Ascii.{ascii}
-use Rattle.text.specs.Text.{countOf}
-use Rattle.tracker.specs.Promise.{Row, Opening, opening, numberMet, openConditions, intervalConditions, awaitedFrom, workedFrom}
-use Rattle.journal.specs.declared.Found.{Found}
-use Rattle.journal.specs.declared.Found.the-variants.{Journal, Refused as NotRead}
-use Rattle.journal.specs.Journal.{readOf, recordsOf}
-use Rattle.journal.specs.Journal as J
-use Rattle.listing.specs.Line.{newline, joined, lineOf, listedOf}
+use Rattle.text.specs.Text.{numberCell}
+use Rattle.tracker.specs.Promise.{Row, Opening, opening, numberMet, openConditions, intervalConditions, awaitedFrom, ofDirections, workedFrom}
+use Rattle.journal_rules.specs.declared.Found.{Found}
+use Rattle.journal_rules.specs.declared.Found.the-variants.{Journal, Refused as NotRead}
+use Rattle.journal_rules.specs.Journal.{recordLength, readOf, recordsOf}
+use Rattle.journal_rules.specs.Journal as J
+use Rattle.listing.specs.Line.{newline, lineOf, listedOf}
 
 -- The header always comes first.
 unfoldable pub header : List ℕ
@@ -21,7 +21,7 @@ header = ascii "interval,direction,applies,amount,previous,current,next,clamp\n"
 
 -- A refusal prints `refused,` and its number, and ends the listing.
 unfoldable pub refusedLine : ℕ → List ℕ
-refusedLine k = ascii "refused," ++ countOf k newline
+refusedLine k = ascii "refused," ++ numberCell k newline
 
 abbrev pub endedBy : ℕ → List (List ℕ)
 endedBy k = refusedLine k ∷ []
@@ -31,26 +31,22 @@ abbrev pub callLines : Option ℕ → List (List ℕ) → List (List ℕ) → Li
 callLines none own following = own ++ following
 callLines (some k) own following = endedBy k
 
--- A row's line, where the row is printed.
+-- A row's line, where the row is printed, and else none.
 abbrev pub ifListed : Row → List (List ℕ)
 ifListed r = cond (listedOf r) (lineOf r ∷ []) []
 
--- By interval, then direction: the lines of the printed rows of directions d, d+1, …, as many as are left.
-unfoldable pub rowLines : (ℕ → Row) → ℕ → ℕ → List (List ℕ)
-rowLines rows d zero = []
-rowLines rows d (suc left) = ifListed (rows d) ++ rowLines rows (suc d) left
-
+-- By interval, then direction: the lines of the printed ones of the eight rows.
 abbrev pub eightRows : (ℕ → Row) → List (List ℕ)
-eightRows rows = rowLines rows 0 8
+eightRows rows = flatten (map ifListed (ofDirections rows))
 
 -- The next k records of r, after those that have passed: for each the printed ones of the eight rows worked out from the opening and the
 -- records up to it. The first refused one, at the number which those before it await, ends the listing with its number.
 unfoldable pub runLines : Opening → ℕ → List (List ℕ) → List ℕ → List (List ℕ)
 runLines o zero passed r = []
 runLines o (suc k) passed r =
-    let b = take 168 r in
+    let b = take recordLength r in
     let upto = passed ++ (b ∷ []) in
-    callLines (numberMet (intervalConditions (awaitedFrom o passed) b)) (eightRows (workedFrom o upto)) (runLines o k upto (drop 168 r))
+    callLines (numberMet (intervalConditions (awaitedFrom o passed) b)) (eightRows (workedFrom o upto)) (runLines o k upto (drop recordLength r))
 
 -- It opens at the journal's first n with all shares 500.
 abbrev pub openedAt : ℕ → Opening
@@ -63,7 +59,7 @@ openingNumber o = numberMet (openConditions (o .first) (o .shares))
 unfoldable pub openedLines : ℕ → List ℕ → List (List ℕ)
 openedLines first r =
     let o = openedAt first in
-    callLines (openingNumber o) [] (runLines o (J.countOf r) [] r)
+    callLines (openingNumber o) [] (runLines o (J.recordCount r) [] r)
 
 -- An empty journal prints the header alone: it is not opened.
 unfoldable pub recordLines : ℕ → List ℕ → List (List ℕ)
@@ -86,4 +82,11 @@ unfoldable pub linesOf : List ℕ → Bool → List (List ℕ)
 linesOf input more = header ∷ inputLines input more
 
 abbrev pub listingOf : List ℕ → Bool → List ℕ
-listingOf input more = joined (linesOf input more)
+listingOf input more = flatten (linesOf input more)
+
+-- No line is longer than 95 bytes, and no listing than the header's 62 and 288 times eight lines.
+abbrev pub longestLine : ℕ
+longestLine = 95
+
+abbrev pub longestListing : ℕ
+longestListing = 62 + J.mostRecords * (8 * longestLine)

@@ -1,4 +1,2 @@
--- What the functions over a record return, where the rules have no name for it.
-pub mod Read
-pub mod Check
-pub mod Lines
+-- What the code of this crate needs beyond the rules.
+pub mod Internal

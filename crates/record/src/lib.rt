@@ -1,49 +1,94 @@
 // What the bytes of a record say, and under which number they are refused.
-use rules::Corridor;
+use rules::HIGHEST_NUMBER;
 use rules::Line;
 use rules::Outcome;
+use rules::RECORD;
 use units::Cents;
 use units::Hundredths;
 ghost use mathlib.Core.Path.{_≡_};
-ghost use Prim.Native.Nat.{_+_, _*_, _%_, _<_, _≤_};
+ghost use Prim.Native.Nat.{_+_, _%_, _<_, _≤_};
 ghost use lib.ListN.{length};
-ghost use Rattle.units.specs.Units.{cents};
-ghost use Rattle.rules.specs.Market.{priceOk, flowOk, lossOk};
-ghost use Rattle.rules.specs.Record.{i32At, bit, zeroBytes, ofRegions, prices, lineOf, lines, aheadPrices, aheadLineOf, aheadLines, targetSum};
-ghost use Rattle.rules.specs.Refusal.{each, statusOk, badFlags, badStatus, badPrice, lineOk, badFlow, aheadLineOk, aheadZero, aheadInside, badAhead, intervalOutcome};
-ghost use Rattle.record.specs.Check.{aheadMisplaced, regionOk};
-ghost use Rattle.record.specs.Lines.{IsCorridor, IsTargetOf};
-ghost use Rattle.record.specs.Read.{IsI32, priceFrom, IsHundredths};
+ghost use lib.Signed.{leZ};
+ghost use Rattle.signed.specs.Range.{within};
+ghost use Rattle.units.specs.Units.{cents, hundredths};
+ghost use Rattle.rules.specs.Record.{recordNumber, i32At, bit, present, status, blocked, zeroBytes, metered, target, losses, preDispatchFlow, preDispatchLosses, ofRegions, ofLines, lineAt, preDispatchLineAt};
+ghost use Rattle.rules.specs.Refusal.{each, statusOk, badFlags, badStatus, badFlow, preDispatchZero, preDispatchInside, badPreDispatch, intervalOutcome};
+ghost use Rattle.record.specs.Internal.{Whole, Room, IsI32, IsHundredths, header, priceFrom, preDispatchMisplaced, regionOk, flowIn, lossIn, inRange, priceOf, lineOf};
 
-// Where a record has its flags, the four prices of the interval, and pre-dispatch, which starts with its four prices.
+// Where a record has its flags, a status byte for each direction, and the interval's four prices.
 const FLAGS: usize = 4;
+
+const STATUS: usize = 5;
 
 const PRICES: usize = 16;
 
-const AHEAD: usize = 104;
+// Of each physical interconnector, twelve bytes apart: where the metered flow, the target and the losses stand.
+const LINE: usize = 12;
 
-const LAST_NUMBER: u32 = 1051199;
+const METERED: usize = 32;
+
+const TARGET: usize = 36;
+
+const LOSSES: usize = 40;
+
+// Pre-dispatch: where its four prices stand, and of each physical interconnector, eight bytes apart, flow and losses.
+const PRE_DISPATCH: usize = 104;
+
+const PRE_DISPATCH_LINE: usize = 8;
+
+const PRE_DISPATCH_FLOW: usize = 120;
+
+const PRE_DISPATCH_LOSSES: usize = 124;
+
+// What a number of a record may be, at least and at most.
+struct Limits {
+    low: i64,
+    high: i64,
+}
+
+const PRICE_LIMITS: Limits = Limits {
+    low: -100_000,
+    high: 3_000_000,
+};
+
+const FLOW_LIMITS: Limits = Limits {
+    low: -500_000,
+    high: 500_000,
+};
+
+const LOSS_LIMITS: Limits = Limits {
+    low: -100_000,
+    high: 100_000,
+};
+
+// The record's n.
+pub fn number(s: &[u8]) -> u32
+    requires { ⌜ Whole (now s) ⌝ }
+    ensures { λ r. ⌜ r ≡ recordNumber (now (s .entry)) ⌝ }
+{
+    words::u32_at(s, 0)
+}
 
 // An i32, as the i64 that is computed with. That it is no larger than an i32 is what lets callers add and multiply what they read.
 fn int_at(s: &[u8], at: usize) -> i64
     requires { ⌜ at + 4 ≤ length (now s) ⌝ }
     ensures { λ r. ⌜ IsI32 (now (s .entry)) at r ⌝ }
 {
-    // Without a branch: one load, sign-extended.
+    // Without a branch, as one load, sign-extended: 2 ^ 31 is added, around at 2 ^ 32, and taken away again.
     let u = words::u32_at(s, at) as u64;
-    ((u + 2147483648) % 4294967296) as i64 - 2147483648
+    ((u + 2_147_483_648) % 4_294_967_296) as i64 - 2_147_483_648
 }
 
-pub fn cents_at(s: &[u8], at: usize) -> Cents
+fn cents_at(s: &[u8], at: usize) -> Cents
     requires { ⌜ at + 4 ≤ length (now s) ⌝ }
     ensures { λ r. ⌜ r ≡ cents (i32At (now (s .entry)) at) ⌝ }
 {
     Cents(int_at(s, at))
 }
 
-pub fn hundredths_at(s: &[u8], at: usize) -> Hundredths
+fn hundredths_at(s: &[u8], at: usize) -> Hundredths
     requires { ⌜ at + 4 ≤ length (now s) ⌝ }
-    ensures { λ r. ⌜ IsHundredths (now (s .entry)) at r ⌝ }
+    ensures { λ r. ⌜ IsHundredths (hundredths (i32At (now (s .entry)) at)) r ⌝ }
 {
     Hundredths(int_at(s, at))
 }
@@ -56,91 +101,118 @@ fn price_at(s: &[u8], at: usize, region: usize) -> Cents
     cents_at(s, at + 4 * region)
 }
 
-// Of physical interconnector i, in the interval: metered flow, target and losses.
+// The metered flow of physical interconnector i in the interval; below, target and losses likewise.
 fn metered_at(s: &[u8], i: usize) -> Hundredths
-    requires { ⌜ (length (now s) ≡ 168) × (i < 6) ⌝ }
-    ensures { λ r. ⌜ IsHundredths (now (s .entry)) (32 + 12 * i) r ⌝ }
+    requires { ⌜ Whole (now s) × (i < 6) ⌝ }
+    ensures { λ r. ⌜ IsHundredths (metered (now (s .entry)) i) r ⌝ }
 {
-    hundredths_at(s, 32 + 12 * i)
+    hundredths_at(s, METERED + LINE * i)
 }
 
-fn target_at(s: &[u8], i: usize) -> Hundredths
-    requires { ⌜ (length (now s) ≡ 168) × (i < 6) ⌝ }
-    ensures { λ r. ⌜ IsHundredths (now (s .entry)) (36 + 12 * i) r ⌝ }
+pub fn target_at(s: &[u8], i: usize) -> Hundredths
+    requires { ⌜ Whole (now s) × (i < 6) ⌝ }
+    ensures { λ r. ⌜ IsHundredths (target (now (s .entry)) i) r ⌝ }
 {
-    hundredths_at(s, 36 + 12 * i)
+    hundredths_at(s, TARGET + LINE * i)
 }
 
 fn losses_at(s: &[u8], i: usize) -> Hundredths
-    requires { ⌜ (length (now s) ≡ 168) × (i < 6) ⌝ }
-    ensures { λ r. ⌜ IsHundredths (now (s .entry)) (40 + 12 * i) r ⌝ }
+    requires { ⌜ Whole (now s) × (i < 6) ⌝ }
+    ensures { λ r. ⌜ IsHundredths (losses (now (s .entry)) i) r ⌝ }
 {
-    hundredths_at(s, 40 + 12 * i)
+    hundredths_at(s, LOSSES + LINE * i)
 }
 
-// The same of pre-dispatch: flow and losses.
-fn ahead_flow_at(s: &[u8], i: usize) -> Hundredths
-    requires { ⌜ (length (now s) ≡ 168) × (i < 6) ⌝ }
-    ensures { λ r. ⌜ IsHundredths (now (s .entry)) (120 + 8 * i) r ⌝ }
+// The flow of physical interconnector i in pre-dispatch; below, its losses.
+fn pre_dispatch_flow_at(s: &[u8], i: usize) -> Hundredths
+    requires { ⌜ Whole (now s) × (i < 6) ⌝ }
+    ensures { λ r. ⌜ IsHundredths (preDispatchFlow (now (s .entry)) i) r ⌝ }
 {
-    hundredths_at(s, 120 + 8 * i)
+    hundredths_at(s, PRE_DISPATCH_FLOW + PRE_DISPATCH_LINE * i)
 }
 
-fn ahead_losses_at(s: &[u8], i: usize) -> Hundredths
-    requires { ⌜ (length (now s) ≡ 168) × (i < 6) ⌝ }
-    ensures { λ r. ⌜ IsHundredths (now (s .entry)) (124 + 8 * i) r ⌝ }
+fn pre_dispatch_losses_at(s: &[u8], i: usize) -> Hundredths
+    requires { ⌜ Whole (now s) × (i < 6) ⌝ }
+    ensures { λ r. ⌜ IsHundredths (preDispatchLosses (now (s .entry)) i) r ⌝ }
 {
-    hundredths_at(s, 124 + 8 * i)
+    hundredths_at(s, PRE_DISPATCH_LOSSES + PRE_DISPATCH_LINE * i)
 }
 
-// The flags byte, bit by bit: the interval is under review,
-pub fn is_reviewed(flags: u8) -> bool
-    ensures { λ r. ⌜ r ≡ bit 0 flags ⌝ }
+// Bit k of a byte.
+fn bit(x: u8, k: u8) -> bool
+    requires { ⌜ k < 8 ⌝ }
+    ensures { λ r. ⌜ r ≡ bit k x ⌝ }
 {
-    flags & 1 != 0
+    x >> k & 1 == 1
 }
 
-// the loop is operating,
-pub fn is_operating(flags: u8) -> bool
-    ensures { λ r. ⌜ r ≡ bit 1 flags ⌝ }
+// Is pre-dispatch present? A bit of the flags says so.
+fn has_pre_dispatch(s: &[u8]) -> bool
+    requires { ⌜ Whole (now s) ⌝ }
+    ensures { λ r. ⌜ r ≡ present (now (s .entry)) ⌝ }
 {
-    flags & 2 != 0
+    bit(s[FLAGS], 2)
 }
 
+// What a record says of all directions alike: n, and of the flags that the interval is under review, that the loop is operating, and that
 // pre-dispatch is present.
-pub fn has_ahead(flags: u8) -> bool
-    ensures { λ r. ⌜ r ≡ bit 2 flags ⌝ }
-{
-    flags & 4 != 0
+pub struct Header {
+    pub n: u32,
+    pub review: bool,
+    pub operating: bool,
+    pub present: bool,
 }
 
-// A direction's status byte: whether it is blocked, and beside that 0 unbound, 1 bound, 2 violated.
-pub fn is_blocked(status: u8) -> bool
-    ensures { λ r. ⌜ r ≡ bit 2 status ⌝ }
+pub fn header_of(s: &[u8]) -> Header
+    requires { ⌜ Whole (now s) ⌝ }
+    ensures { λ r. ⌜ r ≡ header (now (s .entry)) ⌝ }
 {
-    status & 4 != 0
+    let flags = s[FLAGS];
+    Header {
+        n: number(s),
+        review: bit(flags, 0),
+        operating: bit(flags, 1),
+        present: bit(flags, 2),
+    }
 }
 
-pub fn state(status: u8) -> u8
-    ensures { λ r. ⌜ r ≡ status % 4 ⌝ }
+// A status byte without its blocked mark.
+fn state(x: u8) -> u8
+    ensures { λ r. ⌜ r ≡ x % 4 ⌝ }
 {
-    status & 3
+    x & 3
+}
+
+// A direction's status: 0 unbound, 1 bound, 2 violated.
+pub fn status(s: &[u8], d: usize) -> u8
+    requires { ⌜ Whole (now s) × (d < 8) ⌝ }
+    ensures { λ r. ⌜ r ≡ status (now (s .entry)) d ⌝ }
+{
+    state(s[STATUS + d])
+}
+
+// Is a direction blocked? A bit of its status byte says so.
+pub fn is_blocked(s: &[u8], d: usize) -> bool
+    requires { ⌜ Whole (now s) × (d < 8) ⌝ }
+    ensures { λ r. ⌜ r ≡ blocked (now (s .entry)) d ⌝ }
+{
+    bit(s[STATUS + d], 2)
 }
 
 // Pre-dispatch may come only with the last interval of a half-hour.
-fn ahead_misplaced(s: &[u8]) -> bool
-    requires { ⌜ length (now s) ≡ 168 ⌝ }
-    ensures { λ r. ⌜ r ≡ aheadMisplaced (now (s .entry)) ⌝ }
+fn pre_dispatch_misplaced(s: &[u8]) -> bool
+    requires { ⌜ Whole (now s) ⌝ }
+    ensures { λ r. ⌜ r ≡ preDispatchMisplaced (now (s .entry)) ⌝ }
 {
-    if has_ahead(s[FLAGS]) {
-        words::u32_at(s, 0) % 6 != 5
+    if has_pre_dispatch(s) {
+        number(s) % 6 != 5
     } else {
         false
     }
 }
 
 fn zero_bytes(s: &[u8]) -> bool
-    requires { ⌜ length (now s) ≡ 168 ⌝ }
+    requires { ⌜ Whole (now s) ⌝ }
     ensures { λ r. ⌜ r ≡ zeroBytes (now (s .entry)) ⌝ }
 {
     if s[13] != 0 {
@@ -152,15 +224,15 @@ fn zero_bytes(s: &[u8]) -> bool
     s[15] == 0
 }
 
-pub fn bad_flags(s: &[u8]) -> bool
-    requires { ⌜ length (now s) ≡ 168 ⌝ }
+fn bad_flags(s: &[u8]) -> bool
+    requires { ⌜ Whole (now s) ⌝ }
     ensures { λ r. ⌜ r ≡ badFlags (now (s .entry)) ⌝ }
 {
     // only the three low bits have a meaning
     if s[FLAGS] >> 3 != 0 {
         return true;
     }
-    if ahead_misplaced(s) {
+    if pre_dispatch_misplaced(s) {
         return true;
     }
     !zero_bytes(s)
@@ -179,146 +251,134 @@ fn status_ok(x: u8) -> bool
     x <= 6
 }
 
-pub fn bad_status(s: &[u8]) -> bool
-    requires { ⌜ length (now s) ≡ 168 ⌝ }
+fn bad_status(s: &[u8]) -> bool
+    requires { ⌜ Whole (now s) ⌝ }
     ensures { λ r. ⌜ r ≡ badStatus (now (s .entry)) ⌝ }
 {
     for d in 0usize..8 {
-        if !status_ok(s[5 + d]) {
+        if !status_ok(s[STATUS + d]) {
             return true;
         }
     }
     false
 }
 
-fn price_ok(p: Cents) -> bool
-    ensures { λ r. ⌜ r ≡ priceOk p ⌝ }
+fn at_least(x: i64, limits: Limits) -> bool
+    ensures { λ r. ⌜ r ≡ leZ (limits .low) x ⌝ }
 {
-    p.is_within(Cents(-100000), Cents(3000000))
+    limits.low <= x
 }
 
-fn flow_ok(f: Hundredths) -> bool
-    ensures { λ r. ⌜ r ≡ flowOk f ⌝ }
+fn at_most(x: i64, limits: Limits) -> bool
+    ensures { λ r. ⌜ r ≡ leZ x (limits .high) ⌝ }
 {
-    f.is_within(Hundredths(-500000), Hundredths(500000))
+    x <= limits.high
 }
 
-fn loss_ok(l: Hundredths) -> bool
-    ensures { λ r. ⌜ r ≡ lossOk l ⌝ }
+fn int_within(s: &[u8], at: usize, limits: Limits) -> bool
+    requires { ⌜ at + 4 ≤ length (now s) ⌝ }
+    ensures { λ r. ⌜ r ≡ within (limits .low) (limits .high) (i32At (now (s .entry)) at) ⌝ }
 {
-    l.is_within(Hundredths(-100000), Hundredths(100000))
+    let x = int_at(s, at);
+    at_least(x, limits) && at_most(x, limits)
 }
 
-// For the interval's prices and for those of pre-dispatch.
+// Are the `count` numbers from `at` on, each `stride` bytes after the one before it, within the limits?
+fn all_within(s: &[u8], at: usize, stride: usize, count: usize, limits: Limits) -> bool
+    requires { ⌜ Room (now s) at stride count ⌝ }
+    ensures { λ r. ⌜ r ≡ each count (inRange (now (s .entry)) at stride limits) ⌝ }
+{
+    for i in 0..count {
+        if !int_within(s, at + stride * i, limits) {
+            return false;
+        }
+    }
+    true
+}
+
+// Are the four prices from `at` on in range? The interval and pre-dispatch each have such four.
 fn prices_ok(s: &[u8], at: usize) -> bool
     requires { ⌜ at + 16 ≤ length (now s) ⌝ }
     ensures { λ r. ⌜ r ≡ each 4 (regionOk (now (s .entry)) at) ⌝ }
 {
-    for region in 0usize..4 {
-        if !price_ok(price_at(s, at, region)) {
-            return false;
-        }
-    }
-    true
+    all_within(s, at, 4, 4, PRICE_LIMITS)
 }
 
-pub fn bad_price(s: &[u8]) -> bool
-    requires { ⌜ length (now s) ≡ 168 ⌝ }
-    ensures { λ r. ⌜ r ≡ badPrice (now (s .entry)) ⌝ }
+// Are the six flows from `at` on in range, `stride` bytes from one physical interconnector to the next?
+fn flows_ok(s: &[u8], at: usize, stride: usize) -> bool
+    requires { ⌜ Room (now s) at stride 6 ⌝ }
+    ensures { λ r. ⌜ r ≡ each 6 (flowIn (now (s .entry)) at stride) ⌝ }
 {
-    !prices_ok(s, PRICES)
+    all_within(s, at, stride, 6, FLOW_LIMITS)
 }
 
-fn line_ok(s: &[u8], i: usize) -> bool
-    requires { ⌜ (length (now s) ≡ 168) × (i < 6) ⌝ }
-    ensures { λ r. ⌜ r ≡ lineOk (now (s .entry)) i ⌝ }
+// Are the six losses from `at` on in range, `stride` bytes from one physical interconnector to the next?
+fn losses_ok(s: &[u8], at: usize, stride: usize) -> bool
+    requires { ⌜ Room (now s) at stride 6 ⌝ }
+    ensures { λ r. ⌜ r ≡ each 6 (lossIn (now (s .entry)) at stride) ⌝ }
 {
-    if !flow_ok(metered_at(s, i)) {
-        return false;
-    }
-    if !flow_ok(target_at(s, i)) {
-        return false;
-    }
-    loss_ok(losses_at(s, i))
+    all_within(s, at, stride, 6, LOSS_LIMITS)
 }
 
-pub fn bad_flow(s: &[u8]) -> bool
-    requires { ⌜ length (now s) ≡ 168 ⌝ }
+fn bad_flow(s: &[u8]) -> bool
+    requires { ⌜ Whole (now s) ⌝ }
     ensures { λ r. ⌜ r ≡ badFlow (now (s .entry)) ⌝ }
 {
-    for i in 0usize..6 {
-        if !line_ok(s, i) {
-            return true;
-        }
+    if !flows_ok(s, METERED, LINE) {
+        return true;
     }
-    false
+    if !flows_ok(s, TARGET, LINE) {
+        return true;
+    }
+    !losses_ok(s, LOSSES, LINE)
 }
 
-fn ahead_line_ok(s: &[u8], i: usize) -> bool
-    requires { ⌜ (length (now s) ≡ 168) × (i < 6) ⌝ }
-    ensures { λ r. ⌜ r ≡ aheadLineOk (now (s .entry)) i ⌝ }
+fn pre_dispatch_inside(s: &[u8]) -> bool
+    requires { ⌜ Whole (now s) ⌝ }
+    ensures { λ r. ⌜ r ≡ preDispatchInside (now (s .entry)) ⌝ }
 {
-    if !flow_ok(ahead_flow_at(s, i)) {
+    if !prices_ok(s, PRE_DISPATCH) {
         return false;
     }
-    loss_ok(ahead_losses_at(s, i))
-}
-
-fn ahead_lines_ok(s: &[u8]) -> bool
-    requires { ⌜ length (now s) ≡ 168 ⌝ }
-    ensures { λ r. ⌜ r ≡ each 6 (aheadLineOk (now (s .entry))) ⌝ }
-{
-    for i in 0usize..6 {
-        if !ahead_line_ok(s, i) {
-            return false;
-        }
-    }
-    true
-}
-
-pub fn ahead_inside(s: &[u8]) -> bool
-    requires { ⌜ length (now s) ≡ 168 ⌝ }
-    ensures { λ r. ⌜ r ≡ aheadInside (now (s .entry)) ⌝ }
-{
-    if !prices_ok(s, AHEAD) {
+    if !flows_ok(s, PRE_DISPATCH_FLOW, PRE_DISPATCH_LINE) {
         return false;
     }
-    ahead_lines_ok(s)
+    losses_ok(s, PRE_DISPATCH_LOSSES, PRE_DISPATCH_LINE)
 }
 
 // Absent pre-dispatch is all zero: 16 numbers, up to the end of the record.
-pub fn ahead_zero(s: &[u8]) -> bool
-    requires { ⌜ length (now s) ≡ 168 ⌝ }
-    ensures { λ r. ⌜ r ≡ aheadZero (now (s .entry)) ⌝ }
+fn pre_dispatch_zero(s: &[u8]) -> bool
+    requires { ⌜ Whole (now s) ⌝ }
+    ensures { λ r. ⌜ r ≡ preDispatchZero (now (s .entry)) ⌝ }
 {
     for i in 0usize..16 {
-        if words::u32_at(s, AHEAD + 4 * i) != 0 {
+        if words::u32_at(s, PRE_DISPATCH + 4 * i) != 0 {
             return false;
         }
     }
     true
 }
 
-pub fn bad_ahead(s: &[u8]) -> bool
-    requires { ⌜ length (now s) ≡ 168 ⌝ }
-    ensures { λ r. ⌜ r ≡ badAhead (now (s .entry)) ⌝ }
+fn bad_pre_dispatch(s: &[u8]) -> bool
+    requires { ⌜ Whole (now s) ⌝ }
+    ensures { λ r. ⌜ r ≡ badPreDispatch (now (s .entry)) ⌝ }
 {
-    if has_ahead(s[FLAGS]) {
-        !ahead_inside(s)
+    if has_pre_dispatch(s) {
+        !pre_dispatch_inside(s)
     } else {
-        !ahead_zero(s)
+        !pre_dispatch_zero(s)
     }
 }
 
 // The first condition that is met gives the number. Each later one relies on the length that the first has tested.
-pub fn judged(awaited: u32, s: &[u8]) -> Outcome
+pub fn interval_outcome(awaited: u32, s: &[u8]) -> Outcome
     ensures { λ r. ⌜ r ≡ intervalOutcome awaited (now (s .entry)) ⌝ }
 {
-    if s.len() != 168 {
+    if s.len() != RECORD {
         return Outcome::Refused(1);
     }
-    let n = words::u32_at(s, 0);
-    if LAST_NUMBER < n {
+    let n = number(s);
+    if HIGHEST_NUMBER < n {
         return Outcome::Refused(2);
     }
     if n != awaited {
@@ -330,13 +390,13 @@ pub fn judged(awaited: u32, s: &[u8]) -> Outcome
     if bad_status(s) {
         return Outcome::Refused(5);
     }
-    if bad_price(s) {
+    if !prices_ok(s, PRICES) {
         return Outcome::Refused(6);
     }
     if bad_flow(s) {
         return Outcome::Refused(7);
     }
-    if bad_ahead(s) {
+    if bad_pre_dispatch(s) {
         return Outcome::Refused(8);
     }
     Outcome::Accepted
@@ -354,131 +414,60 @@ fn prices_from(s: &[u8], at: usize) -> [Cents; 4]
     ]
 }
 
-pub fn prices(s: &[u8]) -> [Cents; 4]
-    requires { ⌜ length (now s) ≡ 168 ⌝ }
-    ensures { λ r. ⌜ r ≡ prices (now (s .entry)) ⌝ }
+// The four prices, of the interval or of pre-dispatch.
+pub fn prices(s: &[u8], pre_dispatch: bool) -> [Cents; 4]
+    requires { ⌜ Whole (now s) ⌝ }
+    ensures { λ r. ⌜ r ≡ ofRegions (priceOf «pre_dispatch» (now (s .entry))) ⌝ }
 {
-    prices_from(s, PRICES)
+    if pre_dispatch {
+        prices_from(s, PRE_DISPATCH)
+    } else {
+        prices_from(s, PRICES)
+    }
 }
 
-pub fn ahead_prices(s: &[u8]) -> [Cents; 4]
-    requires { ⌜ length (now s) ≡ 168 ⌝ }
-    ensures { λ r. ⌜ r ≡ aheadPrices (now (s .entry)) ⌝ }
-{
-    prices_from(s, AHEAD)
-}
-
-// Document 01's a and b of physical interconnector i.
-fn line_at(s: &[u8], i: usize) -> Line
-    requires { ⌜ (length (now s) ≡ 168) × (i < 6) ⌝ }
-    ensures { λ r. ⌜ r ≡ lineOf (now (s .entry)) i ⌝ }
+// Document 01's a and b of physical interconnector i, of the interval.
+fn interval_line_at(s: &[u8], i: usize) -> Line
+    requires { ⌜ Whole (now s) × (i < 6) ⌝ }
+    ensures { λ r. ⌜ r ≡ lineAt (now (s .entry)) i ⌝ }
 {
     let a = metered_at(s, i).plus(target_at(s, i));
     let b = losses_at(s, i).times(2);
     Line { a, b }
 }
 
-pub fn lines(s: &[u8]) -> [Line; 6]
-    requires { ⌜ length (now s) ≡ 168 ⌝ }
-    ensures { λ r. ⌜ r ≡ lines (now (s .entry)) ⌝ }
+// Document 01's a and b of physical interconnector i, of the pre-dispatch half-hour.
+fn pre_dispatch_line_at(s: &[u8], i: usize) -> Line
+    requires { ⌜ Whole (now s) × (i < 6) ⌝ }
+    ensures { λ r. ⌜ r ≡ preDispatchLineAt (now (s .entry)) i ⌝ }
 {
-    [
-        line_at(s, 0),
-        line_at(s, 1),
-        line_at(s, 2),
-        line_at(s, 3),
-        line_at(s, 4),
-        line_at(s, 5),
-    ]
-}
-
-fn ahead_line_at(s: &[u8], i: usize) -> Line
-    requires { ⌜ (length (now s) ≡ 168) × (i < 6) ⌝ }
-    ensures { λ r. ⌜ r ≡ aheadLineOf (now (s .entry)) i ⌝ }
-{
-    let a = ahead_flow_at(s, i).times(12);
-    let b = ahead_losses_at(s, i).times(12);
+    let a = pre_dispatch_flow_at(s, i).times(12);
+    let b = pre_dispatch_losses_at(s, i).times(12);
     Line { a, b }
 }
 
-pub fn ahead_lines(s: &[u8]) -> [Line; 6]
-    requires { ⌜ length (now s) ≡ 168 ⌝ }
-    ensures { λ r. ⌜ r ≡ aheadLines (now (s .entry)) ⌝ }
+fn line_at(s: &[u8], pre_dispatch: bool, i: usize) -> Line
+    requires { ⌜ Whole (now s) × (i < 6) ⌝ }
+    ensures { λ r. ⌜ r ≡ lineOf «pre_dispatch» (now (s .entry)) i ⌝ }
+{
+    if pre_dispatch {
+        pre_dispatch_line_at(s, i)
+    } else {
+        interval_line_at(s, i)
+    }
+}
+
+// The a and b of the six physical interconnectors, of the interval or of pre-dispatch.
+pub fn lines(s: &[u8], pre_dispatch: bool) -> [Line; 6]
+    requires { ⌜ Whole (now s) ⌝ }
+    ensures { λ r. ⌜ r ≡ ofLines (lineOf «pre_dispatch» (now (s .entry))) ⌝ }
 {
     [
-        ahead_line_at(s, 0),
-        ahead_line_at(s, 1),
-        ahead_line_at(s, 2),
-        ahead_line_at(s, 3),
-        ahead_line_at(s, 4),
-        ahead_line_at(s, 5),
+        line_at(s, pre_dispatch, 0),
+        line_at(s, pre_dispatch, 1),
+        line_at(s, pre_dispatch, 2),
+        line_at(s, pre_dispatch, 3),
+        line_at(s, pre_dispatch, 4),
+        line_at(s, pre_dispatch, 5),
     ]
-}
-
-// The regions by number, in the order of their prices.
-const NSW1: usize = 0;
-
-const QLD1: usize = 1;
-
-const SA1: usize = 2;
-
-const VIC1: usize = 3;
-
-// From region, to region, and which physical interconnectors.
-const CORRIDORS: [Corridor; 4] = [
-    Corridor {
-        from: NSW1,
-        to: QLD1,
-        first: 0,
-        lines: 2,
-    },
-    Corridor {
-        from: VIC1,
-        to: NSW1,
-        first: 2,
-        lines: 1,
-    },
-    Corridor {
-        from: VIC1,
-        to: SA1,
-        first: 3,
-        lines: 2,
-    },
-    Corridor {
-        from: NSW1,
-        to: SA1,
-        first: 5,
-        lines: 1,
-    },
-];
-
-pub fn corridor_at(c: usize) -> Corridor
-    requires { ⌜ c < 4 ⌝ }
-    ensures { λ r. ⌜ IsCorridor c r ⌝ }
-{
-    CORRIDORS[c]
-}
-
-// The sum of the targets of a corridor's physical interconnectors.
-fn corridor_target(s: &[u8], c: usize) -> Hundredths
-    requires { ⌜ (length (now s) ≡ 168) × (c < 4) ⌝ }
-    ensures { λ r. ⌜ IsTargetOf (now (s .entry)) c r ⌝ }
-{
-    let corridor = corridor_at(c);
-    let first = corridor.first;
-    let lines = corridor.lines;
-    let mut sum = Hundredths(0);
-    for i in 0..lines {
-        sum = sum.plus(target_at(s, first + i));
-    }
-    sum
-}
-
-// The target sum of direction d's corridor: an odd direction runs from To to From, and counts it negated.
-pub fn target_sum(s: &[u8], d: usize) -> Hundredths
-    requires { ⌜ (length (now s) ≡ 168) × (d < 8) ⌝ }
-    ensures { λ r. ⌜ r ≡ targetSum (now (s .entry)) d ⌝ }
-{
-    let sum = corridor_target(s, d / 2);
-    if d % 2 == 1 { sum.negated() } else { sum }
 }

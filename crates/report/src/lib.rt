@@ -28,16 +28,16 @@ fn print_cents(z: Cents)
     requires { ⌜ natAbs (z .0) ≤ highestSum ⌝ }
 {
     let mut out = [0u8; 32];
-    let k = text::cents(z, b',', &mut out, 0);
-    io::write_all(STDOUT_FILENO, &out[..k]);
+    let from = text::cents(z, b',', &mut out, 32);
+    io::write_all(STDOUT_FILENO, &out[from..]);
 }
 
 fn print_hundredths(z: Hundredths)
     requires { ⌜ natAbs (z .0) ≤ 2000000 ⌝ }
 {
     let mut out = [0u8; 32];
-    let k = text::hundredths(z, b',', &mut out, 0);
-    io::write_all(STDOUT_FILENO, &out[..k]);
+    let from = text::hundredths(z, b',', &mut out, 32);
+    io::write_all(STDOUT_FILENO, &out[from..]);
 }
 
 // Held or not, first, last, extended; no period is four zeros.
@@ -46,7 +46,11 @@ fn print_period(p: Period) {
         Period::None => {
             io::write_all(STDOUT_FILENO, b"0,0,0,0,");
         }
-        Period::Held(first, last, extended) => {
+        Period::Held {
+            first,
+            last,
+            extended,
+        } => {
             io::write_all(STDOUT_FILENO, b"1,");
             print_number(first as u64, b',');
             print_number(last as u64, b',');

@@ -1,3 +1,3 @@
 -- Laws that this crate's proofs and its callers share.
-pub mod Lines
-pub mod Directions
+mod LineBounds
+pub mod ResidueArray

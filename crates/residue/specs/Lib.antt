@@ -1,3 +1,2 @@
--- What the contracts of this crate cite beyond the rules.
-pub mod Range
-pub mod Directions
+-- What the code of this crate needs beyond the rules.
+pub mod Internal

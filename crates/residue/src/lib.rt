@@ -1,4 +1,5 @@
 // The residues of the eight directions, the loop flag and the estimate of one record: document 01's "Residue", and rules 2 and 3.
+use rules::Corridor;
 use rules::CorridorResidue;
 use rules::Line;
 use units::Cents;
@@ -12,10 +13,55 @@ ghost use lib.IntN.{pos, natAbs};
 ghost use lib.ListN.{getD};
 ghost use Rattle.signed.specs.Range.{minus};
 ghost use Rattle.units.specs.Units.{cents};
+ghost use Rattle.rules.specs.Bounds.{highestNext};
 ghost use Rattle.rules.specs.Residue.{grainsOf, rounded, corridorResidue, residueOf};
 ghost use Rattle.rules.specs.Interval.{place, loopSum, flagOf, nextOf};
-ghost use Rattle.residue.specs.Range.{LineInRange, InRange};
-ghost use Rattle.residue.specs.Directions.{ofDirections, assigned};
+ghost use Rattle.residue.specs.Internal.{IsCorridor, LineInRange, InRange, highestCorridorGrains, assigned};
+ghost use Rattle.rules.specs.Market.{ofDirections};
+
+// The regions by number, in the order of their prices.
+const NSW1: usize = 0;
+
+const QLD1: usize = 1;
+
+const SA1: usize = 2;
+
+const VIC1: usize = 3;
+
+// From region, to region, and which physical interconnectors.
+const CORRIDORS: [Corridor; 4] = [
+    Corridor {
+        from: NSW1,
+        to: QLD1,
+        first: 0,
+        lines: 2,
+    },
+    Corridor {
+        from: VIC1,
+        to: NSW1,
+        first: 2,
+        lines: 1,
+    },
+    Corridor {
+        from: VIC1,
+        to: SA1,
+        first: 3,
+        lines: 2,
+    },
+    Corridor {
+        from: NSW1,
+        to: SA1,
+        first: 5,
+        lines: 1,
+    },
+];
+
+pub fn corridor_at(c: usize) -> Corridor
+    requires { ⌜ c < 4 ⌝ }
+    ensures { λ r. ⌜ IsCorridor c r ⌝ }
+{
+    CORRIDORS[c]
+}
 
 // The grains of one physical interconnector: p is the To price, q the From price, k the From loss share in thousandths.
 fn grains(p: Cents, q: Cents, k: u16, l: Line) -> Grains
@@ -40,7 +86,7 @@ fn half_cent(negative: bool) -> i64
 
 // Half a cent is added on the side of the sign, and the division drops the rest: halves go away from zero.
 fn rounded(g: Grains) -> Cents
-    requires { ⌜ natAbs (g .0) ≤ 1000000000000000000 ⌝ }
+    requires { ⌜ natAbs (g .0) ≤ highestCorridorGrains ⌝ }
     ensures { λ r. ⌜ r ≡ rounded g ⌝ }
 {
     let half = half_cent(g.0 < 0);
@@ -53,7 +99,7 @@ fn corridor(prices: [Cents; 4], shares: [u16; 6], lines: [Line; 6], c: usize) ->
     requires { ⌜ (c < 4) × InRange prices shares lines ⌝ }
     ensures { λ r. ⌜ r ≡ corridorResidue prices shares lines c ⌝ }
 {
-    let at = record::corridor_at(c);
+    let at = corridor_at(c);
     let to = at.to;
     let from = at.from;
     let first = at.first;
@@ -111,7 +157,7 @@ pub fn residues(prices: [Cents; 4], shares: [u16; 6], lines: [Line; 6]) -> [Cent
 
 // The sum over directions 2 to 7, the loop's.
 pub fn loop_sum(r: [Cents; 8]) -> Cents
-    requires { ⌜ ((d : ℕ) → natAbs (getD r d (cents (pos 0)) .0) ≤ 36000000000) ⌝ }
+    requires { ⌜ ((d : ℕ) → natAbs (getD r d (cents (pos 0)) .0) ≤ highestNext) ⌝ }
     ensures { λ s. ⌜ s ≡ loopSum (λ d. getD r d (cents (pos 0))) ⌝ }
 {
     r[2].plus(r[3]).plus(r[4]).plus(r[5]).plus(r[6]).plus(r[7])
@@ -137,12 +183,12 @@ fn estimated(flag: bool, n: u32, present: bool) -> bool
     flag && (n % 6 == 5 && present)
 }
 
-// The estimate for the next half-hour, `ahead` being the pre-dispatch residue.
-pub fn next(flag: bool, n: u32, present: bool, ahead: Cents) -> Cents
-    ensures { λ r. ⌜ r ≡ nextOf flag n present ahead ⌝ }
+// The estimate for the next half-hour, from the pre-dispatch residue.
+pub fn next(flag: bool, n: u32, present: bool, pre_dispatch: Cents) -> Cents
+    ensures { λ r. ⌜ r ≡ nextOf flag n present «pre_dispatch» ⌝ }
 {
     if estimated(flag, n, present) {
-        ahead.lower_of_zero()
+        pre_dispatch.lower_of_zero()
     } else {
         Cents(0)
     }

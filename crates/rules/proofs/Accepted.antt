@@ -11,10 +11,10 @@ use lib.ListN.{length, getD}
 use Rattle.rules.specs.declared.Outcome.{Outcome}
 use Rattle.rules.specs.declared.Outcome.the-variants.{Accepted, Refused}
 use Rattle.rules.specs.Interval.{place}
-use Rattle.rules.specs.Record.{number}
-use Rattle.rules.specs.Refusal.{numberOf, Condition, judged, numberMet, isAccepted, each, lastNumber, badFlags, badStatus, badPrice, badFlow, badAhead, intervalConditions, intervalOutcome, shareOk, openConditions, openOutcome}
+use Rattle.rules.specs.Record.{recordNumber}
+use Rattle.rules.specs.Refusal.{numberOf, Condition, judged, numberMet, isAccepted, each, highestNumber, badFlags, badStatus, badPrice, badFlow, badPreDispatch, intervalConditions, intervalOutcome, shareOk, openConditions, openOutcome}
 use Rattle.rules.specs.Tracker.{Opening, opens, accepts}
-use Rattle.rules.proofs.Scan.{both-false, each-at, each-by}
+use Rattle.rules.proofs.EachBelow.{both-false, each-at, each-by}
 
 -- No condition of the list is met.
 abbrev pub NoneMet : List Condition → Type 0
@@ -56,13 +56,13 @@ none-met-by cs n = ap isAccepted (accepted-iff cs .1 n)
 -- What it takes for an interval record to be accepted: none of the conditions 1 to 8.
 pub record Sound (awaited : ℕ) (b : List ℕ) : Type 0 where
   pub whole : length b ≡ 168
-  pub in-range : number b ≤ 1051199
-  pub in-turn : number b ≡ awaited
+  pub in-range : recordNumber b ≤ highestNumber
+  pub in-turn : recordNumber b ≡ awaited
   pub flags : badFlags b ≡ false
   pub statuses : badStatus b ≡ false
   pub prices : badPrice b ≡ false
   pub flows : badFlow b ≡ false
-  pub ahead : badAhead b ≡ false
+  pub preDispatch : badPreDispatch b ≡ false
 
 pub accepted-is : (awaited : ℕ) (b : List ℕ) → accepts awaited b ≡ true → Sound awaited b
 unfolding intervalOutcome intervalConditions
@@ -70,32 +70,32 @@ accepted-is awaited b e =
     let none = none-met (intervalConditions awaited b) e in
     record {
       whole = eqb-true (length b) 168 (not-false (eqb (length b) 168) (search));
-      in-range = ltb-false lastNumber (number b) (search);
-      in-turn = eqb-true (number b) awaited (not-false (eqb (number b) awaited) (search));
+      in-range = ltb-false highestNumber (recordNumber b) (search);
+      in-turn = eqb-true (recordNumber b) awaited (not-false (eqb (recordNumber b) awaited) (search));
       flags = search;
       statuses = search;
       prices = search;
       flows = search;
-      ahead = search;
+      preDispatch = search;
     }
 
 pub accepted-by : (awaited : ℕ) (b : List ℕ) → Sound awaited b → accepts awaited b ≡ true
 unfolding intervalOutcome intervalConditions
 accepted-by awaited b s =
     let one = ap not (eq-eqb (length b) 168 (s .whole)) in
-    let two = le-ltb lastNumber (number b) (s .in-range) in
-    let three = ap not (eq-eqb (number b) awaited (s .in-turn)) in
+    let two = le-ltb highestNumber (recordNumber b) (s .in-range) in
+    let three = ap not (eq-eqb (recordNumber b) awaited (s .in-turn)) in
     none-met-by (intervalConditions awaited b) (search (one, two, three))
 
 -- What it takes for an opening to be accepted: neither 9 nor 10.
 pub record SoundOpening (o : Opening) : Type 0 where
-  pub in-range : o .first ≤ 1051199
+  pub in-range : o .first ≤ highestNumber
   pub half-hour : place (o .first) ≡ 0
   pub shares : (i : ℕ) → i < 6 → getD (o .shares) i 0 ≤ 1000
 
 module _ (o : Opening) where
   abbrev late : Bool
-  late = ltb lastNumber (o .first)
+  late = ltb highestNumber (o .first)
 
   abbrev astride : Bool
   astride = not (eqb (place (o .first)) 0)
@@ -109,7 +109,7 @@ module _ (o : Opening) where
       let none = none-met conditions e in
       let nine = both-false late astride (search) in
       record {
-        in-range = ltb-false lastNumber (o .first) (nine .0);
+        in-range = ltb-false highestNumber (o .first) (nine .0);
         half-hour = eqb-true (place (o .first)) 0 (not-false (eqb (place (o .first)) 0) (nine .1));
         shares = λ i l. leb-true (getD (o .shares) i 0) 1000 (each-at (shareOk (o .shares)) 6 (not-false (each 6 (shareOk (o .shares))) (search)) i l);
       }
@@ -121,4 +121,4 @@ module _ (o : Opening) where
       none-met-by conditions (search (nine, ten))
     where
       nine : (late || astride) ≡ false
-      nine = simp (le-ltb lastNumber (o .first) (s .in-range), eq-eqb (place (o .first)) 0 (s .half-hour))
+      nine = simp (le-ltb highestNumber (o .first) (s .in-range), eq-eqb (place (o .first)) 0 (s .half-hour))

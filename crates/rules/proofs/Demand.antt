@@ -17,8 +17,8 @@ use Rattle.rules.specs.History.{stateAfter}
 use Rattle.rules.specs.Record.{eventOf}
 use Rattle.rules.specs.Tracker.{Opening, firstOf, accepts, advanced, intervalOf, after, row, rowOf, run}
 use Rattle.rules.specs.Claim.{awaitedAfter, accepted, history, workedRow, DirectionClaim, ClaimOf, Claim}
-use Rattle.rules.proofs.Span.{recent-of}
-use Rattle.rules.proofs.Turn.{nextNumber}
+use Rattle.rules.proofs.PeriodInvariant.{recent-of}
+use Rattle.rules.proofs.Consecutive.{nextNumber}
 use Rattle.rules.proofs.OneDirection.{sum-of, span-of, inside-of, Got}
 use Rattle.rules.proofs.Replay.{Replays, replays, shownAfter, next-is}
 

@@ -16,13 +16,14 @@ use Rattle.rules.specs.declared.Tracker.{Tracker}
 use Rattle.rules.specs.declared.Row.{Row}
 use Rattle.rules.specs.declared.RowAnswer.{RowAnswer}
 use Rattle.rules.specs.declared.Outcome.the-variants.{Accepted}
+use Rattle.rules.specs.Market.{ofDirections}
 use Rattle.rules.specs.Residue.{residueOf}
 use Rattle.rules.specs.Interval.{clearsAt, flagOf, nextOf, stepOf}
-use Rattle.rules.specs.Record.{u32At, i32At, prices, lines, aheadPrices, aheadLines, eventOf}
-use Rattle.rules.specs.Refusal.{each, badFlags, badStatus, badPrice, badFlow, aheadZero, aheadInside, badAhead, intervalConditions, intervalOutcome, openConditions, openOutcome, rowConditions, rowOutcome}
+use Rattle.rules.specs.Record.{u32At, i32At, prices, lines, preDispatchPrices, preDispatchLines, eventOf}
+use Rattle.rules.specs.Refusal.{each, badFlags, badStatus, badPrice, badFlow, preDispatchZero, preDispatchInside, badPreDispatch, intervalConditions, intervalOutcome, openConditions, openOutcome, rowConditions, rowOutcome}
 use Rattle.rules.specs.Tracker.{Opening, opens, openOf, stepAll, advanced, intervalOf, rowOf, rowAnswer, run}
 use Rattle.rules.specs.Claim.{history, workedRow}
-use Rattle.rules.specs.Figures.{halves, theRecord, allEight}
+use Rattle.rules.specs.Figures.{halves, theRecord}
 use Rattle.rules.proofs.Replay.{replays}
 
 -- ---- the shares
@@ -33,7 +34,7 @@ amountAt k =
     rowAnswer (run (record { first = 0; shares = set halves 2 k }) (lossy ∷ [])) 2 .row .amount
 
 pub amount-by-share : (amountAt 250 ≡ cents (minus 373750)) × (amountAt 251 ≡ cents (minus 373765))
-unfolding residueOf clearsAt flagOf nextOf stepOf u32At i32At prices lines aheadPrices aheadLines eventOf each badFlags badStatus badPrice badFlow aheadZero aheadInside badAhead intervalConditions intervalOutcome openConditions openOutcome rowConditions rowOutcome openOf stepAll advanced intervalOf rowOf rowAnswer run
+unfolding residueOf clearsAt flagOf nextOf stepOf u32At i32At prices lines preDispatchPrices preDispatchLines eventOf each badFlags badStatus badPrice badFlow preDispatchZero preDispatchInside badPreDispatch intervalConditions intervalOutcome openConditions openOutcome rowConditions rowOutcome openOf stepAll advanced intervalOf rowOf rowAnswer run
 amount-by-share = (refl, refl)
 
 -- ---- a fresh tracker
@@ -110,6 +111,6 @@ unfolding workedRow
 worked-fresh first d = refl
 
 -- The row call on a just opened tracker gives it, of each of the eight directions.
-pub shown-fresh : (o : Opening) → opens o ≡ true → map (rowAnswer (openOf o .tracker)) allEight ≡ map (λ d. answered (freshRow (o .first) d)) allEight
+pub shown-fresh : (o : Opening) → opens o ≡ true → ofDirections (rowAnswer (openOf o .tracker)) ≡ ofDirections (λ d. answered (freshRow (o .first) d))
 unfolding rowConditions rowOutcome openOf rowOf rowAnswer
 shown-fresh o e = rw e refl

@@ -20,7 +20,7 @@ use Rattle.rules.specs.declared.Line.{Line}
 use Rattle.rules.specs.Market.{corridorOf, reverse}
 use Rattle.rules.specs.Residue.{grainsOf, rounded, price, line, corridorGrains, corridorFlow, residueOf}
 use Rattle.rules.specs.Interval.{place, flagOf, nextOf}
-use Rattle.rules.specs.Record.{number, operating, present, prices, lines, aheadPrices, aheadLines, residue, aheadResidue, flag, next}
+use Rattle.rules.specs.Record.{recordNumber, operating, present, prices, lines, preDispatchPrices, preDispatchLines, residue, preDispatchResidue, flag, next}
 
 -- ---- the loop flag
 -- 1 for directions 0 and 1, always;
@@ -64,9 +64,9 @@ lower-of-zero-low (pos n) = record { le = tt }
 lower-of-zero-low (negsuc n) = record { le = tt }
 
 -- What next is, of an interval n with its loop flag, whether pre-dispatch is present, and the pre-dispatch residue.
-pub record NextLaw (flag : Bool) (n : ℕ) (present : Bool) (ahead next : Cents) : Type 0 where
+pub record NextLaw (flag : Bool) (n : ℕ) (present : Bool) (preDispatch next : Cents) : Type 0 where
   -- Next is the lower of the pre-dispatch residue and 0 if q = 5, pre-dispatch is present and the flag is 1;
-  pub estimate : flag ≡ true → place n ≡ 5 → present ≡ true → next ≡ lowerOfZero ahead
+  pub estimate : flag ≡ true → place n ≡ 5 → present ≡ true → next ≡ lowerOfZero preDispatch
   -- else 0: with q not 5, with pre-dispatch absent, and with flag 0.
   pub elsewhere : place n ≢ 5 → next ≡ cents (pos 0)
   pub absent : present ≡ false → next ≡ cents (pos 0)
@@ -74,9 +74,9 @@ pub record NextLaw (flag : Bool) (n : ℕ) (present : Bool) (ahead next : Cents)
   -- It is never above 0.
   pub low : next .0 ≤ℤ pos 0
 
-pub next-law : (flag : Bool) (n : ℕ) (present : Bool) (ahead : Cents) → NextLaw flag n present ahead (nextOf flag n present ahead)
+pub next-law : (flag : Bool) (n : ℕ) (present : Bool) (preDispatch : Cents) → NextLaw flag n present preDispatch (nextOf flag n present preDispatch)
 unfolding nextOf
-next-law flag n present ahead = record {
+next-law flag n present preDispatch = record {
   estimate = λ f q p. simp (f, q, p);
   elsewhere = λ q. simp (ne-eqb (place n) 5 q, and-false);
   absent = λ p. simp (p, and-false);
@@ -84,13 +84,13 @@ next-law flag n present ahead = record {
   low = go (flag && (eqb (place n) 5 && present));
 }
   where
-    go : (t : Bool) → cond t (lowerOfZero ahead) (cents (pos 0)) .0 ≤ℤ pos 0
-    go true = lower-of-zero-low (ahead .0)
+    go : (t : Bool) → cond t (lowerOfZero preDispatch) (cents (pos 0)) .0 ≤ℤ pos 0
+    go true = lower-of-zero-low (preDispatch .0)
     go false = record { le = tt }
 
 pub record-next-law : (shares b : List ℕ) (d : ℕ)
-    → NextLaw (flag shares b d) (number b) (present b) (residueOf (aheadPrices b) shares (aheadLines b) d) (next shares b d)
-record-next-law shares b d = next-law (flag shares b d) (number b) (present b) (aheadResidue shares b d)
+    → NextLaw (flag shares b d) (recordNumber b) (present b) (residueOf (preDispatchPrices b) shares (preDispatchLines b) d) (next shares b d)
+record-next-law shares b d = next-law (flag shares b d) (recordNumber b) (present b) (preDispatchResidue shares b d)
 
 -- ---- the residue
 -- k is the From loss share: at 1000 the From price bears all losses, at 0 the To price does.

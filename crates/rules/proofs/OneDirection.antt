@@ -10,17 +10,18 @@ use lib.Dec.{T, eqb}
 use lib.IntN.{ℤ, pos, _+ℤ_}
 use lib.ListN.{length, drop}
 use lib.Signed.{ltZ}
+use mir.Facts.{and-yes, yes-and}
 use Rattle.signed.specs.Range.{negative}
-use Rattle.signed.proofs.Parts.{signed, below-zero}
+use Rattle.signed.proofs.NatParts.{signed, below-zero}
 use Rattle.units.specs.declared.Cents.{Cents}
 use Rattle.units.specs.Units.{cents, _+ᶜ_}
 use Rattle.rules.specs.declared.Event.{Event}
 use Rattle.rules.specs.declared.Sums.{Sums}
-use Rattle.rules.specs.Interval.{Settings, place, clearsAt, turned, rule1, rule2, amount, atThreshold, reached, stepOf}
+use Rattle.rules.specs.Interval.{Settings, place, clearsAt, atHalfHourStart, rule1, rule2, amount, atThreshold, reached, stepOf}
 use Rattle.rules.specs.History.{latestHalfHour, anyNegative, clearing, sinceClearing, sumNegative, sumSince, underReview, gotThere, liesIn, stateAfter}
-use Rattle.rules.proofs.Sum.{Books, books-fresh, books-turned, books-rule2, low}
-use Rattle.rules.proofs.Span.{Span, T-true, both, left, right, advance}
-use Rattle.rules.proofs.Turn.{nextNumber, InTurn, latest-half-hour}
+use Rattle.rules.proofs.SumInvariant.{SumInvariant, invariant-fresh, invariant-at-start, invariant-rule2, low}
+use Rattle.rules.proofs.PeriodInvariant.{Span, T-true, advance}
+use Rattle.rules.proofs.Consecutive.{nextNumber, InTurn, latest-half-hour}
 
 -- ---- the sum
 sum-cond : (c : Bool) (e : Event) (es : List Event) → sumNegative (cond c [] (e ∷ es)) .0 ≡ cond c (pos 0) (sumNegative es .0 +ℤ low (e .residue .0))
@@ -28,10 +29,10 @@ unfolding sumNegative
 sum-cond true e es = refl
 sum-cond false e es = refl
 
-turn-books : (begins : Bool) (es : List Event) {sum : ℤ} {s : Sums} → Books sum (anyNegative es) s → Books sum (anyNegative (cond begins [] es)) (turned begins s)
+history-at-start : (begins : Bool) (es : List Event) {sum : ℤ} {s : Sums} → SumInvariant sum (anyNegative es) s → SumInvariant sum (anyNegative (cond begins [] es)) (atHalfHourStart begins s)
 unfolding anyNegative
-turn-books true es b = books-turned true b
-turn-books false es b = b
+history-at-start true es b = invariant-at-start true b
+history-at-start false es b = b
 
 seen-next : (first : ℕ) (e : Event) (es : List Event) → InTurn first (e ∷ es) → anyNegative (latestHalfHour (e ∷ es)) ≡ (negative (e .residue .0) || anyNegative (cond (eqb (place (e .n)) 0) [] (latestHalfHour es)))
 unfolding anyNegative
@@ -54,21 +55,21 @@ zero-above set below t =
 applied : (set : Settings) → T (negative (set .threshold .0)) → (flag clears v : Bool) (r next : Cents) (s : Sums) → (T (not flag) → next .0 ≡ pos 0) → T (atThreshold set (amount (rule2 flag clears r s) +ᶜ next) && not v) → T flag
 applied set below true clears v r next s z t = tt
 applied set below false clears v r next s z t =
-    absurd (zero-above set below (left (atThreshold set (cents (pos 0))) (not v) (subst (λ (x : ℤ). T (atThreshold set (cents (pos 0 +ℤ x)) && not v)) (z tt) t)))
+    absurd (zero-above set below (and-yes (atThreshold set (cents (pos 0))) (not v) (subst (λ (x : ℤ). T (atThreshold set (cents (pos 0 +ℤ x)) && not v)) (z tt) t) .0))
 
 module _ (set : Settings) (d : ℕ) where
-  sum-fresh : Books (sumSince [] .0) (anyNegative (latestHalfHour [])) (stateAfter set d [] .sums)
+  sum-fresh : SumInvariant (sumSince [] .0) (anyNegative (latestHalfHour [])) (stateAfter set d [] .sums)
   unfolding latestHalfHour anyNegative sinceClearing sumNegative stateAfter
-  sum-fresh = books-fresh
+  sum-fresh = invariant-fresh
 
-  pub sum-of : (first : ℕ) (es : List Event) → InTurn first es → Books (sumSince es .0) (anyNegative (latestHalfHour es)) (stateAfter set d es .sums)
+  pub sum-of : (first : ℕ) (es : List Event) → InTurn first es → SumInvariant (sumSince es .0) (anyNegative (latestHalfHour es)) (stateAfter set d es .sums)
   unfolding clearing sinceClearing stateAfter stepOf
   sum-of first [] t = sum-fresh
   sum-of first (e ∷ es) t =
       let begins = eqb (place (e .n)) 0 in
       let seen = anyNegative (cond begins [] (latestHalfHour es)) in
       rw (sum-cond (clearing (e ∷ es)) e (sinceClearing es), seen-next first e es t)
-      (books-rule2 (e .flag) (clearsAt (place (e .n))) (e .residue .0) seen (turn-books begins (latestHalfHour es) (sum-of first es (t .2))))
+      (invariant-rule2 (e .flag) (clearsAt (place (e .n))) (e .residue .0) seen (history-at-start begins (latestHalfHour es) (sum-of first es (t .2))))
 
   module _ (below : T (negative (set .threshold .0))) (first : ℕ) where
     -- one interval, and all
@@ -83,7 +84,7 @@ module _ (set : Settings) (d : ℕ) where
         advance (Got set es) (Got set (e ∷ es)) (λ i w. (omega (arith, w .0), w .1, w .2)) (e .n) (e .flag) got (stateAfter set d es .period)
         (applied set below (e .flag) (clearsAt (place (e .n))) (e .review) (e .residue) (e .next) old (turn .1))
         (λ t. let u : T (reached set e (sumSince (e ∷ es))) = subst (λ (z : ℤ). T (reached set e (cents z))) (sum-of first (e ∷ es) turn .total) t in
-        (omega arith, left (gotThere set (e ∷ es)) (not (e .review)) u, right (gotThere set (e ∷ es)) (not (e .review)) u))
+        let both = and-yes (gotThere set (e ∷ es)) (not (e .review)) u in (omega arith, both .0, both .1))
         s
 
     pub span-of : (es : List Event) → InTurn first es → Span (Got set es) (nextNumber first es) (stateAfter set d es .period)
@@ -95,4 +96,4 @@ module _ (set : Settings) (d : ℕ) where
     unfolding sinceClearing sumNegative
     inside-of [] t g v = absurd (zero-above set below g)
     inside-of (e ∷ es) t g v = step e es t (rw (t .0) (span-of es (t .2))) .1
-        (subst (λ (z : ℤ). T (reached set e (cents z))) (sym (sum-of first (e ∷ es) t .total)) (both (gotThere set (e ∷ es)) (not (e .review)) g v))
+        (subst (λ (z : ℤ). T (reached set e (cents z))) (sym (sum-of first (e ∷ es) t .total)) (yes-and (gotThere set (e ∷ es)) (not (e .review)) g v))

@@ -12,10 +12,11 @@ use Rattle.units.specs.Units.{hundredths}
 use Rattle.rules.specs.declared.Tracker.{Tracker}
 use Rattle.rules.specs.declared.Outcome.{Outcome}
 use Rattle.rules.specs.declared.Outcome.the-variants.{Accepted, Refused}
+use Rattle.rules.specs.Market.{ofDirections}
 use Rattle.rules.specs.Record.{u32At, i32At}
-use Rattle.rules.specs.Refusal.{numberOf, Condition, each, badFlags, badStatus, badPrice, badFlow, aheadZero, aheadInside, badAhead, intervalConditions, intervalOutcome, openConditions, openOutcome, rowConditions, rowOutcome}
+use Rattle.rules.specs.Refusal.{numberOf, Condition, each, badFlags, badStatus, badPrice, badFlow, preDispatchZero, preDispatchInside, badPreDispatch, intervalConditions, intervalOutcome, openConditions, openOutcome, rowConditions, rowOutcome}
 use Rattle.rules.specs.Tracker.{openOf, advanced, intervalOf, rowAnswer, run}
-use Rattle.rules.specs.Figures.{halves, theRecord, allEight}
+use Rattle.rules.specs.Figures.{halves, theRecord}
 use Rattle.rules.proofs.Fresh.{rowOfZeros}
 
 -- ---- the order: the first condition met, as listed, gives the number; without one the call is accepted
@@ -34,7 +35,7 @@ mendedInTurn = (withFaults faults ++ (0 ∷ [])) ∷ map (λ k. withFaults (drop
 
 pub one-to-eight : map (intervalOutcome 0) mendedInTurn
     ≡ Refused 1 ∷ Refused 2 ∷ Refused 3 ∷ Refused 4 ∷ Refused 5 ∷ Refused 6 ∷ Refused 7 ∷ Refused 8 ∷ Accepted ∷ []
-unfolding u32At i32At each badFlags badStatus badPrice badFlow aheadZero aheadInside badAhead intervalConditions intervalOutcome
+unfolding u32At i32At each badFlags badStatus badPrice badFlow preDispatchZero preDispatchInside badPreDispatch intervalConditions intervalOutcome
 one-to-eight = refl
 
 -- An opening with both faults, the first n late or within a half-hour; then with the share alone; then with none.
@@ -74,7 +75,7 @@ abbrev answersAfter : List (List ℕ) → List Outcome
 answersAfter calls = map (λ n. intervalOf (run (record { first = 0; shares = halves }) calls) (withFaults ((0, n) ∷ [])) .outcome) (0 ∷ 1 ∷ 2 ∷ [])
 
 pub awaited-in-turn : (answersAfter [] ≡ Accepted ∷ Refused 3 ∷ Refused 3 ∷ []) × (answersAfter (theRecord ∷ []) ≡ Refused 3 ∷ Accepted ∷ Refused 3 ∷ [])
-unfolding u32At i32At each badFlags badStatus badPrice badFlow aheadZero aheadInside badAhead intervalConditions intervalOutcome openConditions openOutcome openOf advanced intervalOf run
+unfolding u32At i32At each badFlags badStatus badPrice badFlow preDispatchZero preDispatchInside badPreDispatch intervalConditions intervalOutcome openConditions openOutcome openOf advanced intervalOf run
 awaited-in-turn = (refl, refl)
 
 -- Number 4, each of the flag bits 3-7 set.
@@ -83,9 +84,9 @@ unfolding u32At each badFlags badStatus intervalConditions intervalOutcome
 high-flags = refl
 
 -- Number 4, bit 2 with q not 5; at q = 5 it is accepted.
-pub ahead-at-five : map (λ n. intervalOutcome n (withFaults ((0, n) ∷ (4, 4) ∷ []))) (0 ∷ 1 ∷ 2 ∷ 3 ∷ 4 ∷ 5 ∷ []) ≡ replicate 5 (Refused 4) ++ (Accepted ∷ [])
-unfolding u32At i32At each badFlags badStatus badPrice badFlow aheadZero aheadInside badAhead intervalConditions intervalOutcome
-ahead-at-five = refl
+pub pre-dispatch-at-five : map (λ n. intervalOutcome n (withFaults ((0, n) ∷ (4, 4) ∷ []))) (0 ∷ 1 ∷ 2 ∷ 3 ∷ 4 ∷ 5 ∷ []) ≡ replicate 5 (Refused 4) ++ (Accepted ∷ [])
+unfolding u32At i32At each badFlags badStatus badPrice badFlow preDispatchZero preDispatchInside badPreDispatch intervalConditions intervalOutcome
+pre-dispatch-at-five = refl
 
 -- Number 4, each zero byte not 0.
 pub zero-bytes : map (λ i. intervalOutcome 0 (withFaults ((i, 1) ∷ (5, 3) ∷ []))) (13 ∷ 14 ∷ 15 ∷ []) ≡ replicate 3 (Refused 4)
@@ -94,7 +95,7 @@ zero-bytes = refl
 
 -- Number 5, status not 0, 1, 2, 4, 5, 6, in each of the eight bytes.
 abbrev statusIs : ℕ → List Outcome
-statusIs x = map (λ d. intervalOutcome 0 (withFaults ((5 + d, x) ∷ (19, 127) ∷ []))) allEight
+statusIs x = ofDirections (λ d. intervalOutcome 0 (withFaults ((5 + d, x) ∷ (19, 127) ∷ [])))
 
 pub status-refused : (statusIs 3 ≡ replicate 8 (Refused 5)) × (statusIs 7 ≡ replicate 8 (Refused 5)) × (statusIs 8 ≡ replicate 8 (Refused 5))
 unfolding u32At i32At each badFlags badStatus badPrice intervalConditions intervalOutcome

@@ -4,22 +4,22 @@ use mathlib.Core.Path.{_≡_, refl, sym, ap, _∙_, subst}
 use mathlib.Core.Bool.{Bool, true, false, not, cond}
 use mathlib.Core.List.{List, [], _∷_, foldl}
 use Prim.Native.Nat.{ℕ, zero, suc, _≤_, _<_}
-use native.Mathlib.Nat.{zero-add}
 use native.Mathlib.Omega.{arith}
 use lib.Dec.{T}
 use lib.IntN.{pos}
-use lib.ListN.{length, getD, replicate}
+use lib.ListN.{length, getD, getD-replicate}
 use Rattle.units.specs.declared.Cents.{Cents}
 use Rattle.rules.specs.declared.Direction.{Direction}
 use Rattle.rules.specs.declared.Tracker.{Tracker}
 use Rattle.rules.specs.Interval.{fresh, settings, nextOf, stepOf}
 use Rattle.rules.specs.History.{stateAfter}
-use Rattle.rules.specs.Record.{number, present, aheadResidue, flag, eventOf}
+use Rattle.rules.specs.Record.{recordNumber, present, preDispatchResidue, flag, eventOf}
+use Rattle.rules.specs.Refusal.{highestNumber}
 use Rattle.rules.specs.Tracker.{Opening, opens, firstOf, sharesOf, openOf, blank, directionOf, stepAll, advanced, accepts, intervalOf, after, run}
-use Rattle.rules.specs.Claim.{awaitedAfter, hear, accepted, history}
+use Rattle.rules.specs.Claim.{awaitedAfter, acceptCall, accepted, history}
 use Rattle.rules.proofs.Accepted.{Sound, accepted-is, opened-is}
-use Rattle.rules.proofs.Each.{length-map, map-at}
-use Rattle.rules.proofs.Turn.{nextNumber, InTurn}
+use Rattle.rules.proofs.Directions.{at-direction}
+use Rattle.rules.proofs.Consecutive.{nextNumber, InTurn}
 
 -- a relation that two steps keep, two folds keep
 pub fold-keeps : {A B C : Type 0} (R : A → B → Type 0) (f : A → C → A) (g : B → C → B) → ((a : A) (b : B) (c : C) → R a b → R (f a c) (g b c)) → (l : List C) (a : A) (b : B) → R a b → R (foldl f a l) (foldl g b l)
@@ -27,25 +27,25 @@ fold-keeps R f g k [] a b r = r
 fold-keeps R f g k (c ∷ l) a b r = fold-keeps R f g k l (f a c) (g b c) (k a b c r)
 
 -- the eight directions are stepped alike
-module _ (shares b : List ℕ) where
-  length-step : (ss : List Direction) → length (stepAll shares b ss) ≡ length ss
+module _ (shares b : List ℕ) (ss : List Direction) where
+  eight-stepped : length (stepAll shares b ss) ≡ 8
   unfolding stepAll
-  length-step ss = length-map (λ d s. stepOf settings d (eventOf shares d b) s) 0 ss
+  eight-stepped = refl
 
-  step-at : (ss : List Direction) (d : ℕ) → d < length ss → getD (stepAll shares b ss) d blank ≡ stepOf settings d (eventOf shares d b) (getD ss d blank)
+  step-at : (d : ℕ) → d < 8 → getD (stepAll shares b ss) d blank ≡ stepOf settings d (eventOf shares d b) (getD ss d blank)
   unfolding stepAll
-  step-at ss d h = map-at (λ d s. stepOf settings d (eventOf shares d b) s) 0 ss blank d h ∙ rw zero-add
+  step-at d h = at-direction (λ d. stepOf settings d (eventOf shares d b) (getD ss d blank)) blank d h
 
 -- at flag 0 there is no estimate
 silent : (shares : List ℕ) (d : ℕ) (b : List ℕ) → T (not (eventOf shares d b .flag)) → eventOf shares d b .next .0 ≡ pos 0
 unfolding eventOf nextOf
-silent shares d b n = at-flag (flag shares b d) (number b) (present b) (aheadResidue shares b d) n
+silent shares d b n = at-flag (flag shares b d) (recordNumber b) (present b) (preDispatchResidue shares b d) n
   where
     at-flag : (f : Bool) (n : ℕ) (p : Bool) (r : Cents) → T (not f) → nextOf f n p r .0 ≡ pos 0
     at-flag true n p r t = absurd t
     at-flag false n p r t = refl
 
-pub event-number : (shares : List ℕ) (d : ℕ) (b : List ℕ) → eventOf shares d b .n ≡ number b
+pub event-number : (shares : List ℕ) (d : ℕ) (b : List ℕ) → eventOf shares d b .n ≡ recordNumber b
 unfolding eventOf
 event-number shares d b = refl
 
@@ -53,18 +53,18 @@ module _ (o : Opening) where
   -- the number that rows show
   abbrev pub shownAfter : List (List ℕ) → ℕ
   shownAfter [] = firstOf o
-  shownAfter (b ∷ bs) = number b
+  shownAfter (b ∷ bs) = recordNumber b
 
   -- each accepted record met none of the conditions 1 to 8
   abbrev pub AllSound : List (List ℕ) → Type 0
   AllSound [] = Unit {0}
-  AllSound (b ∷ bs) = Sound (number b) b × AllSound bs
+  AllSound (b ∷ bs) = Sound (recordNumber b) b × AllSound bs
 
   -- the tracker t beside the accepted records bs, the latest first
   pub record Replays (t : Tracker) (bs : List (List ℕ)) : Type 0 where
     pub awaits : t .awaited ≡ awaitedAfter o bs
     pub shows : t .shown ≡ shownAfter bs
-    pub early : awaitedAfter o bs ≤ 1051200
+    pub early : awaitedAfter o bs ≤ suc highestNumber
     pub shares : t .shares ≡ sharesOf o
     pub eight : length (t .directions) ≡ 8
     pub each : (d : ℕ) → d < 8 → directionOf t d ≡ stateAfter settings d (history o d bs)
@@ -76,24 +76,19 @@ module _ (o : Opening) where
   next-is d [] = refl
   next-is d (b ∷ bs) = ap suc (event-number (sharesOf o) d b)
 
-  fresh-at : (k d : ℕ) → d < k → getD (replicate k fresh) d blank ≡ fresh
-  fresh-at zero d h = absurd (omega arith)
-  fresh-at (suc k) zero h = refl
-  fresh-at (suc k) (suc d) h = fresh-at k d (omega arith)
-
-  pub first-early : firstOf o ≤ 1051199
+  pub first-early : firstOf o ≤ highestNumber
   first-early = go (opens o) refl
     where
-      go : (y : Bool) → opens o ≡ y → firstOf o ≤ 1051199
+      go : (y : Bool) → opens o ≡ y → firstOf o ≤ highestNumber
       go true e = rw e (omega (arith, opened-is o e .in-range))
       go false e = rw e (omega arith)
 
   pub start : Replays (openOf o .tracker) []
   unfolding openOf history stateAfter
-  start = record { awaits = refl; shows = refl; early = omega (arith, first-early); shares = refl; eight = refl; each = λ d h. fresh-at 8 d h; turns = λ _. tt; sound = tt }
+  start = record { awaits = refl; shows = refl; early = omega (arith, first-early); shares = refl; eight = refl; each = λ d h. getD-replicate 8 d fresh blank h; turns = λ _. tt; sound = tt }
 
-  pub one : (t : Tracker) (bs : List (List ℕ)) (b : List ℕ) → Replays t bs → Replays (after t b) (hear o bs b)
-  unfolding intervalOf hear history stateAfter advanced
+  pub one : (t : Tracker) (bs : List (List ℕ)) (b : List ℕ) → Replays t bs → Replays (after t b) (acceptCall o bs b)
+  unfolding intervalOf acceptCall history stateAfter advanced
   one t bs b r = rw (← r .awaits) (go (accepts (t .awaited) b) refl)
     where
       go : (y : Bool) → accepts (t .awaited) b ≡ y → Replays (cond y (advanced t b) t) (cond y (b ∷ bs) bs)
@@ -104,8 +99,8 @@ module _ (o : Opening) where
             shows = refl;
             early = omega (arith, sound .in-range);
             shares = r .shares;
-            eight = length-step (t .shares) b (t .directions) ∙ r .eight;
-            each = λ d lt. rw (step-at (t .shares) b (t .directions) d (omega (arith, r .eight)), r .each d lt, r .shares);
+            eight = eight-stepped (t .shares) b (t .directions);
+            each = λ d lt. rw (step-at (t .shares) b (t .directions) d lt, r .each d lt, r .shares);
             turns = λ d. (event-number (sharesOf o) d b ∙ sound .in-turn ∙ r .awaits ∙ sym (next-is d bs), silent (sharesOf o) d b, r .turns d);
             sound = (subst (λ (a : ℕ). Sound a b) (sym (sound .in-turn)) sound, r .sound);
           }
@@ -113,4 +108,4 @@ module _ (o : Opening) where
 
   pub replays : (calls : List (List ℕ)) → Replays (run o calls) (accepted o calls)
   unfolding run accepted
-  replays calls = fold-keeps Replays after (hear o) one calls (openOf o .tracker) [] start
+  replays calls = fold-keeps Replays after (acceptCall o) one calls (openOf o .tracker) [] start

@@ -1,16 +1,16 @@
 -- How large the numbers of a tracker get: they keep the code from overflowing, and a line of the listing short.
 use mathlib.Core.Bool.{false}
 use mathlib.Core.Path.{_≡_}
-use Prim.Native.Nat.{ℕ, _+_, _*_, _≤_, _<_}
+use Prim.Native.Nat.{ℕ, suc, _+_, _*_, _≤_, _<_}
 use lib.IntN.{pos, natAbs}
 use Rattle.signed.specs.Range.{negative, Within}
 use Rattle.rules.specs.declared.Period.{Period}
 use Rattle.rules.specs.declared.Period.the-variants.{None, Held}
 use Rattle.rules.specs.declared.Direction.{Direction}
 use Rattle.rules.specs.declared.Row.{Row}
-use Rattle.rules.specs.Refusal.{lastNumber}
+use Rattle.rules.specs.Refusal.{highestNumber}
 
--- cents: a residue, an estimate, and a sum of residues over all intervals, 0 to 1,051,199
+-- cents: a residue, an estimate, and a sum of residues over all intervals
 abbrev pub highestResidue : ℕ
 highestResidue = 6000000000
 
@@ -18,7 +18,7 @@ abbrev pub highestNext : ℕ
 highestNext = 36000000000
 
 abbrev pub highestSum : ℕ
-highestSum = 1051200 * highestResidue
+highestSum = suc highestNumber * highestResidue
 
 -- a period begins no later than the awaited number a, and ends at most 11 intervals after it
 pub record PeriodBounds (a first last : ℕ) : Type 0 where
@@ -44,7 +44,7 @@ pub record Bounds (a : ℕ) (s : Direction) : Type 0 where
 
 -- what a row shows
 pub record RowBounds (r : Row) : Type 0 where
-  pub n : r .n ≤ lastNumber
+  pub n : r .n ≤ highestNumber
   pub direction : r .direction < 8
   pub residue : natAbs (r .residue .0) ≤ highestResidue
   pub previous : natAbs (r .previous .0) ≤ highestSum

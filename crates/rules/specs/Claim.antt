@@ -12,20 +12,21 @@ use Rattle.rules.specs.declared.Tracker.{Tracker}
 use Rattle.rules.specs.declared.Row.{Row}
 use Rattle.rules.specs.Interval.{fresh, settings}
 use Rattle.rules.specs.History.{sumSince, gotThere, underReview, GotThereWithin, liesIn, stateAfter}
-use Rattle.rules.specs.Record.{number, eventOf}
+use Rattle.rules.specs.Record.{recordNumber, eventOf}
 use Rattle.rules.specs.Tracker.{Opening, firstOf, sharesOf, accepts, row, rowOf, after, run}
 
 -- Which calls are accepted follows from the opening and the records by numbers 1 to 8. The accepted records stand the latest first.
 -- The awaited number is the opening's first n, then one more than the latest accepted n.
 abbrev pub awaitedAfter : Opening → List (List ℕ) → ℕ
 awaitedAfter o [] = firstOf o
-awaitedAfter o (b ∷ bs) = suc (number b)
+awaitedAfter o (b ∷ bs) = suc (recordNumber b)
 
-unfoldable pub hear : Opening → List (List ℕ) → List ℕ → List (List ℕ)
-hear o bs b = cond (accepts (awaitedAfter o bs) b) (b ∷ bs) bs
+-- One call more: its record joins the accepted ones, or they stay as they were.
+unfoldable pub acceptCall : Opening → List (List ℕ) → List ℕ → List (List ℕ)
+acceptCall o bs b = cond (accepts (awaitedAfter o bs) b) (b ∷ bs) bs
 
 unfoldable pub accepted : Opening → List (List ℕ) → List (List ℕ)
-accepted o calls = foldl (hear o) [] calls
+accepted o calls = foldl (acceptCall o) [] calls
 
 -- What accepted records say of direction d: r, flag and next follow from the shares and the accepted records.
 unfoldable pub history : Opening → ℕ → List (List ℕ) → List Event

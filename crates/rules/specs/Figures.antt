@@ -14,7 +14,8 @@ use Rattle.rules.specs.declared.Event.{Event}
 use Rattle.rules.specs.declared.Row.{Row}
 use Rattle.rules.specs.declared.Period.the-variants.{Held}
 use Rattle.rules.specs.declared.Outcome.the-variants.{Accepted}
-use Rattle.rules.specs.Residue.{intervalLine, aheadLine, rounded, residueOf}
+use Rattle.rules.specs.Market.{ofDirections}
+use Rattle.rules.specs.Residue.{intervalLine, preDispatchLine, rounded, residueOf}
 use Rattle.rules.specs.Interval.{settings, reached, band, stepFor, offsetFor, clampFrom, flagOf}
 use Rattle.rules.specs.History.{stateAfter}
 use Rattle.rules.specs.Record.{residue}
@@ -77,13 +78,9 @@ until11 = at 11 (minus 10000000) ∷ at 10 (pos 0) ∷ at 9 (pos 0) ∷ at 8 (po
 abbrev pub stepAt : ℕ → ℤ → Hundredths
 stepAt d net = stepFor settings d (band settings (cents net))
 
--- The eight directions.
-abbrev pub allEight : List ℕ
-allEight = 0 ∷ 1 ∷ 2 ∷ 3 ∷ 4 ∷ 5 ∷ 6 ∷ 7 ∷ []
-
 -- The steps of all eight at net, and the flags of directions 2-7 at a loop sum while the loop is operating.
 abbrev pub eachStep : ℤ → List Hundredths
-eachStep net = map (λ d. stepAt d net) allEight
+eachStep net = ofDirections (λ d. stepAt d net)
 
 abbrev pub loopFlags : ℤ → List Bool
 loopFlags sum = map (λ d. flagOf true (cents sum) d) (2 ∷ 3 ∷ 4 ∷ 5 ∷ 6 ∷ 7 ∷ [])
@@ -104,7 +101,7 @@ pub record Figures : Type 0 where
   -- P4 grains -1,200,000 give -1.
   pub P4 : rounded (grains (minus 1200000)) ≡ cents (minus 1)
   -- P5 pre-dispatch flow 30,000, same prices: -2,250,000.
-  pub P5 : onVIC1-NSW1 (aheadLine (hundredths (pos 30000)) (hundredths (pos 0))) ≡ cents (minus 2250000)
+  pub P5 : onVIC1-NSW1 (preDispatchLine (hundredths (pos 30000)) (hundredths (pos 0))) ≡ cents (minus 2250000)
   -- P6 total -9,999,999 not reached; -10,000,000 reached.
   pub P6 : (reaches (minus 9999999) ≡ false) × (reaches (minus 10000000) ≡ true)
   -- P7 reached first at 8: period 9 to 17; again at 11: to 23.

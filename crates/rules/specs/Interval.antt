@@ -48,28 +48,32 @@ noSums = record { previous = cents (pos 0); current = cents (pos 0); net = cents
 abbrev pub noCounts : Counts
 noCounts = record { unbound = 0; violated = 0 }
 
--- Fresh: zeros, no period, clamp swamped, not suspended. (A fresh row has flag 1.)
-abbrev pub fresh : Direction
-fresh = record {
+-- A state of zeros, no period, not suspended, with this clamp and flag.
+abbrev pub zeros : Hundredths → Bool → Direction
+zeros clamp flag = record {
   sums = noSums;
   period = None;
-  clamp = swamped;
+  clamp = clamp;
   counts = noCounts;
   suspended = false;
   residue = cents (pos 0);
   next = cents (pos 0);
   blocked = false;
-  flag = true;
+  flag = flag;
   notice = 0;
 }
 
+-- Fresh: zeros, no period, clamp swamped, not suspended. (A fresh row has flag 1.)
+abbrev pub fresh : Direction
+fresh = zeros swamped true
+
 -- 1. If q = 0, previous grows by current; current and net become 0.
-abbrev pub turned : Bool → Sums → Sums
-turned true s = record { previous = s .previous +ᶜ s .current; current = cents (pos 0); net = cents (pos 0) }
-turned false s = s
+abbrev pub atHalfHourStart : Bool → Sums → Sums
+atHalfHourStart true s = record { previous = s .previous +ᶜ s .current; current = cents (pos 0); net = cents (pos 0) }
+atHalfHourStart false s = s
 
 abbrev pub rule1 : ℕ → Sums → Sums
-rule1 n s = turned (eqb (place n) 0) s
+rule1 n s = atHalfHourStart (eqb (place n) 0) s
 
 -- 2. Loop flag: 0 for directions 2-7 if the loop is operating and the residues of directions 2-7 sum to zero or more; else 1.
 abbrev pub loopSum : (ℕ → Cents) → Cents
@@ -90,12 +94,12 @@ abbrev pub cleared : Bool → Sums → Sums
 cleared true s = record { previous = cents (pos 0); current = s .current; net = s .net }
 cleared false s = s
 
-abbrev pub settled : Bool → Sums → Sums
-settled clears s = cleared (eqZ (s .current .0) (pos 0) && clears) s
+abbrev pub clearedIfZero : Bool → Sums → Sums
+clearedIfZero clears s = cleared (eqZ (s .current .0) (pos 0) && clears) s
 
 abbrev pub rule2 : Bool → Bool → Cents → Sums → Sums
 rule2 false clears r s = noSums
-rule2 true clears r s = settled clears (grown r s)
+rule2 true clears r s = clearedIfZero clears (grown r s)
 
 -- Amount = previous + current.
 abbrev pub amount : Sums → Cents
@@ -103,7 +107,7 @@ amount s = s .previous +ᶜ s .current
 
 -- 3. Next is the lower of the pre-dispatch residue and 0 if q = 5, pre-dispatch is present and the flag is 1; else 0.
 unfoldable pub nextOf : Bool → ℕ → Bool → Cents → Cents
-nextOf flag n present ahead = cond (flag && (eqb (place n) 5 && present)) (lowerOfZero ahead) (cents (pos 0))
+nextOf flag n present preDispatch = cond (flag && (eqb (place n) 5 && present)) (lowerOfZero preDispatch) (cents (pos 0))
 
 -- Reached: amount + next is -10,000,000 or less, and no review.
 abbrev pub atThreshold : Settings → Cents → Bool
@@ -125,14 +129,14 @@ started n false = managed None 0
 abbrev pub extends : ℕ → ℕ → Bool → Bool
 extends n last extended = eqb (place n) 5 || (eqb last (6 * halfHour n + 5) && not extended)
 
-abbrev pub stretched : Bool → ℕ → ℕ → Bool → Period
-stretched true first last extended = Held first (last + 6) true
-stretched false first last extended = Held first last extended
+abbrev pub lengthened : Bool → ℕ → ℕ → Bool → Period
+lengthened true first last extended = Held first (last + 6) true
+lengthened false first last extended = Held first last extended
 
-abbrev pub kept : ℕ → Bool → Bool → ℕ → ℕ → Bool → Period
-kept n false reach first last extended = Held first (min last (6 * halfHour n + 5)) extended
-kept n true false first last extended = Held first last extended
-kept n true true first last extended = stretched (extends n last extended) first last extended
+abbrev pub continued : ℕ → Bool → Bool → ℕ → ℕ → Bool → Period
+continued n false reach first last extended = Held first (min last (6 * halfHour n + 5)) extended
+continued n true false first last extended = Held first last extended
+continued n true true first last extended = lengthened (extends n last extended) first last extended
 
 -- A period held before this interval and now with last = n ends: notice 2. Else notice 0.
 abbrev pub isOver : ℕ → ℕ → Bool
@@ -148,7 +152,7 @@ ended n (Held first last extended) = closed (isOver n last) (Held first last ext
 
 abbrev pub rule4 : ℕ → Bool → Bool → Period → Managed
 rule4 n flag reach None = started n reach
-rule4 n flag reach (Held first last extended) = ended n (kept n flag reach first last extended)
+rule4 n flag reach (Held first last extended) = ended n (continued n flag reach first last extended)
 
 -- 5. In a period held before, clamp for n not swamped, current 0 and status unbound: unbound count grows by 1, at most 3; else 0.
 -- Likewise violated. With no period left after 4 both are 0.
@@ -166,6 +170,7 @@ statusUnbound = 0
 abbrev pub statusViolated : ℕ
 statusViolated = 2
 
+-- What both counts ask beside the status: a period held before and still, a clamp for n that is not swamped, current 0.
 abbrev pub quiet : Bool → Hundredths → Cents → Period → Bool
 quiet before clamp current after = held after && (before && (not (isSwamped clamp) && eqZ (current .0) (pos 0)))
 

@@ -56,6 +56,10 @@ corridorOf d = d / 2
 abbrev pub reverse : ℕ → Bool
 reverse d = eqb (d % 2) 1
 
+-- One value for each of the eight directions, in their order.
+abbrev pub ofDirections : {A : Type 0} → (ℕ → A) → List A
+ofDirections f = f 0 ∷ f 1 ∷ f 2 ∷ f 3 ∷ f 4 ∷ f 5 ∷ f 6 ∷ f 7 ∷ []
+
 -- Corridors 1-3 form the loop: directions 2-7.
 abbrev pub inLoop : ℕ → Bool
 inLoop d = leb 2 d

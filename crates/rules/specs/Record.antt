@@ -12,7 +12,7 @@ use Rattle.units.specs.Units.{cents, hundredths, -ʰ_}
 use Rattle.rules.specs.declared.Line.{Line}
 use Rattle.rules.specs.declared.Event.{Event}
 use Rattle.rules.specs.Market.{corridorOf, reverse}
-use Rattle.rules.specs.Residue.{intervalLine, aheadLine, overLines, residueOf}
+use Rattle.rules.specs.Residue.{intervalLine, preDispatchLine, overLines, residueOf}
 use Rattle.rules.specs.Interval.{loopSum, flagOf, nextOf}
 
 -- A byte; little-endian, a u32 and an i32 (two's complement).
@@ -32,8 +32,8 @@ abbrev pub bit : ℕ → ℕ → Bool
 bit k x = eqb (x / 2 ^ k % 2) 1
 
 -- n (u32);
-abbrev pub number : List ℕ → ℕ
-number b = u32At b 0
+abbrev pub recordNumber : List ℕ → ℕ
+recordNumber b = u32At b 0
 
 -- flags byte (bit 0 review, bit 1 loop operating, bit 2 pre-dispatch present);
 abbrev pub flags : List ℕ → ℕ
@@ -76,14 +76,14 @@ abbrev pub losses : List ℕ → ℕ → Hundredths
 losses b i = hundredths (i32At b (40 + 12 * i))
 
 -- pre-dispatch: 4 prices, 6 × (flow, losses). All i32 from byte 16 on.
-abbrev pub aheadPrice : List ℕ → ℕ → Cents
-aheadPrice b region = cents (i32At b (104 + 4 * region))
+abbrev pub preDispatchPrice : List ℕ → ℕ → Cents
+preDispatchPrice b region = cents (i32At b (104 + 4 * region))
 
-abbrev pub aheadFlow : List ℕ → ℕ → Hundredths
-aheadFlow b i = hundredths (i32At b (120 + 8 * i))
+abbrev pub preDispatchFlow : List ℕ → ℕ → Hundredths
+preDispatchFlow b i = hundredths (i32At b (120 + 8 * i))
 
-abbrev pub aheadLosses : List ℕ → ℕ → Hundredths
-aheadLosses b i = hundredths (i32At b (124 + 8 * i))
+abbrev pub preDispatchLosses : List ℕ → ℕ → Hundredths
+preDispatchLosses b i = hundredths (i32At b (124 + 8 * i))
 
 -- The four regions' prices and the six physical interconnectors' a and b: of the interval, and of the pre-dispatch half-hour.
 abbrev pub ofRegions : (ℕ → Cents) → List Cents
@@ -95,33 +95,33 @@ ofLines f = f 0 ∷ f 1 ∷ f 2 ∷ f 3 ∷ f 4 ∷ f 5 ∷ []
 unfoldable pub prices : List ℕ → List Cents
 prices b = ofRegions (price b)
 
-abbrev pub lineOf : List ℕ → ℕ → Line
-lineOf b i = intervalLine (metered b i) (target b i) (losses b i)
+abbrev pub lineAt : List ℕ → ℕ → Line
+lineAt b i = intervalLine (metered b i) (target b i) (losses b i)
 
 unfoldable pub lines : List ℕ → List Line
-lines b = ofLines (lineOf b)
+lines b = ofLines (lineAt b)
 
-unfoldable pub aheadPrices : List ℕ → List Cents
-aheadPrices b = ofRegions (aheadPrice b)
+unfoldable pub preDispatchPrices : List ℕ → List Cents
+preDispatchPrices b = ofRegions (preDispatchPrice b)
 
-abbrev pub aheadLineOf : List ℕ → ℕ → Line
-aheadLineOf b i = aheadLine (aheadFlow b i) (aheadLosses b i)
+abbrev pub preDispatchLineAt : List ℕ → ℕ → Line
+preDispatchLineAt b i = preDispatchLine (preDispatchFlow b i) (preDispatchLosses b i)
 
-unfoldable pub aheadLines : List ℕ → List Line
-aheadLines b = ofLines (aheadLineOf b)
+unfoldable pub preDispatchLines : List ℕ → List Line
+preDispatchLines b = ofLines (preDispatchLineAt b)
 
 -- What a record says of direction d, under the shares of the opening: the interval's residue, the pre-dispatch residue, the loop flag, next,
 abbrev pub residue : List ℕ → List ℕ → ℕ → Cents
 residue shares b d = residueOf (prices b) shares (lines b) d
 
-abbrev pub aheadResidue : List ℕ → List ℕ → ℕ → Cents
-aheadResidue shares b d = residueOf (aheadPrices b) shares (aheadLines b) d
+abbrev pub preDispatchResidue : List ℕ → List ℕ → ℕ → Cents
+preDispatchResidue shares b d = residueOf (preDispatchPrices b) shares (preDispatchLines b) d
 
 abbrev pub flag : List ℕ → List ℕ → ℕ → Bool
 flag shares b d = flagOf (operating b) (loopSum (residue shares b)) d
 
 abbrev pub next : List ℕ → List ℕ → ℕ → Cents
-next shares b d = nextOf (flag shares b d) (number b) (present b) (aheadResidue shares b d)
+next shares b d = nextOf (flag shares b d) (recordNumber b) (present b) (preDispatchResidue shares b d)
 
 -- and the corridor's target sum (negated for To_From).
 abbrev pub targetSum : List ℕ → ℕ → Hundredths
@@ -131,7 +131,7 @@ targetSum b d =
 
 unfoldable pub eventOf : List ℕ → ℕ → List ℕ → Event
 eventOf shares d b = record {
-  n = number b;
+  n = recordNumber b;
   flag = flag shares b d;
   residue = residue shares b d;
   next = next shares b d;

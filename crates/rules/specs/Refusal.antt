@@ -9,7 +9,7 @@ use Rattle.rules.specs.declared.Outcome.{Outcome}
 use Rattle.rules.specs.declared.Outcome.the-variants.{Accepted, Refused}
 use Rattle.rules.specs.Market.{priceOk, flowOk, lossOk}
 use Rattle.rules.specs.Interval.{place}
-use Rattle.rules.specs.Record.{u32At, number, flags, present, statusByte, zeroBytes, price, metered, target, losses, aheadPrice, aheadFlow, aheadLosses}
+use Rattle.rules.specs.Record.{u32At, recordNumber, flags, present, statusByte, zeroBytes, price, metered, target, losses, preDispatchPrice, preDispatchFlow, preDispatchLosses}
 
 -- The number that document 01 gives an outcome: an acceptance has none.
 abbrev pub numberOf : Outcome → Option ℕ
@@ -21,13 +21,13 @@ isAccepted Accepted = true
 isAccepted (Refused k) = false
 
 -- A condition under which a call is refused, and the refusal's number.
-infix 70 _⇒_
+infix 70 _when_
 pub record Condition : Type 0 where
   pub met : Bool
   pub number : ℕ
 
-abbrev pub _⇒_ : Bool → ℕ → Condition
-met ⇒ k = record { met = met; number = k }
+abbrev pub _when_ : ℕ → Bool → Condition
+k when met = record { met = met; number = k }
 
 -- The first condition met, as listed, gives the number; without one the call is accepted.
 abbrev pub judged : List Condition → Outcome
@@ -44,13 +44,13 @@ unfoldable pub each : ℕ → (ℕ → Bool) → Bool
 each zero f = true
 each (suc n) f = each n f && f n
 
--- The last interval number.
-abbrev pub lastNumber : ℕ
-lastNumber = 1051199
+-- The highest interval number.
+abbrev pub highestNumber : ℕ
+highestNumber = 1051199
 
 -- 4 flag bits 3-7 set, bit 2 with q not 5, or a zero byte not 0;
 unfoldable pub badFlags : List ℕ → Bool
-badFlags b = not (eqb (flags b / 8) 0) || (present b && not (eqb (place (number b)) 5) || not (zeroBytes b))
+badFlags b = not (eqb (flags b / 8) 0) || (present b && not (eqb (place (recordNumber b)) 5) || not (zeroBytes b))
 
 -- 5 status not 0, 1, 2, 4, 5, 6;
 abbrev pub statusOk : ℕ → Bool
@@ -71,29 +71,29 @@ unfoldable pub badFlow : List ℕ → Bool
 badFlow b = not (each 6 (lineOk b))
 
 -- 8 pre-dispatch absent and not all zero, or present and outside.
-unfoldable pub aheadZero : List ℕ → Bool
-aheadZero b = each 16 (λ i. eqb (u32At b (104 + 4 * i)) 0)
+unfoldable pub preDispatchZero : List ℕ → Bool
+preDispatchZero b = each 16 (λ i. eqb (u32At b (104 + 4 * i)) 0)
 
-abbrev pub aheadLineOk : List ℕ → ℕ → Bool
-aheadLineOk b i = flowOk (aheadFlow b i) && lossOk (aheadLosses b i)
+abbrev pub preDispatchLineOk : List ℕ → ℕ → Bool
+preDispatchLineOk b i = flowOk (preDispatchFlow b i) && lossOk (preDispatchLosses b i)
 
-unfoldable pub aheadInside : List ℕ → Bool
-aheadInside b = each 4 (λ region. priceOk (aheadPrice b region)) && each 6 (aheadLineOk b)
+unfoldable pub preDispatchInside : List ℕ → Bool
+preDispatchInside b = each 4 (λ region. priceOk (preDispatchPrice b region)) && each 6 (preDispatchLineOk b)
 
-unfoldable pub badAhead : List ℕ → Bool
-badAhead b = not (cond (present b) (aheadInside b) (aheadZero b))
+unfoldable pub badPreDispatch : List ℕ → Bool
+badPreDispatch b = not (cond (present b) (preDispatchInside b) (preDispatchZero b))
 
 -- Interval: 1 length not 168; 2 n above 1,051,199; 3 n not the awaited number; 4 to 8 as above.
 unfoldable pub intervalConditions : ℕ → List ℕ → List Condition
 intervalConditions awaited b =
-    not (eqb (length b) 168) ⇒ 1
-    ∷ ltb lastNumber (number b) ⇒ 2
-    ∷ not (eqb (number b) awaited) ⇒ 3
-    ∷ badFlags b ⇒ 4
-    ∷ badStatus b ⇒ 5
-    ∷ badPrice b ⇒ 6
-    ∷ badFlow b ⇒ 7
-    ∷ badAhead b ⇒ 8
+    1 when not (eqb (length b) 168)
+    ∷ 2 when ltb highestNumber (recordNumber b)
+    ∷ 3 when not (eqb (recordNumber b) awaited)
+    ∷ 4 when badFlags b
+    ∷ 5 when badStatus b
+    ∷ 6 when badPrice b
+    ∷ 7 when badFlow b
+    ∷ 8 when badPreDispatch b
     ∷ []
 
 unfoldable pub intervalOutcome : ℕ → List ℕ → Outcome
@@ -105,8 +105,8 @@ shareOk shares i = leb (getD shares i 0) 1000
 
 unfoldable pub openConditions : ℕ → List ℕ → List Condition
 openConditions first shares =
-    (ltb lastNumber first || not (eqb (place first) 0)) ⇒ 9
-    ∷ not (each 6 (shareOk shares)) ⇒ 10
+    9 when (ltb highestNumber first || not (eqb (place first) 0))
+    ∷ 10 when not (each 6 (shareOk shares))
     ∷ []
 
 unfoldable pub openOutcome : ℕ → List ℕ → Outcome
@@ -114,7 +114,7 @@ openOutcome first shares = judged (openConditions first shares)
 
 -- Row: 17 direction above 7.
 unfoldable pub rowConditions : ℕ → List Condition
-rowConditions d = ltb 7 d ⇒ 17 ∷ []
+rowConditions d = 17 when ltb 7 d ∷ []
 
 unfoldable pub rowOutcome : ℕ → Outcome
 rowOutcome d = judged (rowConditions d)

@@ -24,17 +24,17 @@ abbrev pub intervalLine : Hundredths → Hundredths → Hundredths → Line
 intervalLine metered target losses = record { a = metered +ʰ target; b = pos 2 ×ʰ losses }
 
 -- A pre-dispatch half-hour has a = 12 × flow, b = 12 × losses.
-abbrev pub aheadLine : Hundredths → Hundredths → Line
-aheadLine flow losses = record { a = pos 12 ×ʰ flow; b = pos 12 ×ʰ losses }
+abbrev pub preDispatchLine : Hundredths → Hundredths → Line
+preDispatchLine flow losses = record { a = pos 12 ×ʰ flow; b = pos 12 ×ʰ losses }
 
 -- n, with the sign of z
-abbrev pub signed : ℤ → ℕ → ℤ
-signed (pos z) n = pos n
-signed (negsuc z) n = minus n
+abbrev pub withSign : ℤ → ℕ → ℤ
+withSign (pos z) n = pos n
+withSign (negsuc z) n = minus n
 
 -- 2,400,000 grains are one cent: rounded to the nearest cent, halves away from zero.
 abbrev pub rounded : Grains → Cents
-rounded g = cents (signed (g .0) ((natAbs (g .0) + 1200000) / 2400000))
+rounded g = cents (withSign (g .0) ((natAbs (g .0) + 1200000) / 2400000))
 
 -- The sum of f over n numbers from first on, and over the physical interconnectors of a corridor.
 abbrev pub sumFrom : ℕ → ℕ → (ℕ → ℤ) → ℤ

@@ -1,6 +1,6 @@
--- Document 01, "Record, opening, row": what the three calls return for every input.
+-- Document 01, "Record, opening, row, journal": what the three calls of the tracker return for every input.
 use mathlib.Core.Bool.{Bool, false, not, cond}
-use mathlib.Core.List.{List, [], _∷_, foldl}
+use mathlib.Core.List.{List, foldl}
 use Prim.Native.Nat.{ℕ, suc}
 use lib.IntN.{pos}
 use lib.ListN.{getD, replicate}
@@ -12,8 +12,9 @@ use Rattle.rules.specs.declared.Tracker.{Tracker}
 use Rattle.rules.specs.declared.Row.{Row}
 use Rattle.rules.specs.declared.Answer.{Answer}
 use Rattle.rules.specs.declared.RowAnswer.{RowAnswer}
-use Rattle.rules.specs.Interval.{noSums, noCounts, fresh, settings, stepOf, amount, isSwamped}
-use Rattle.rules.specs.Record.{number, eventOf}
+use Rattle.rules.specs.Market.{ofDirections}
+use Rattle.rules.specs.Interval.{noCounts, zeros, fresh, settings, stepOf, amount, isSwamped}
+use Rattle.rules.specs.Record.{recordNumber, eventOf}
 use Rattle.rules.specs.Refusal.{isAccepted, openOutcome, intervalOutcome, rowOutcome}
 
 -- The tracker, field by field.
@@ -41,17 +42,16 @@ opened o = tracker (sharesOf o) (firstOf o) (firstOf o) (replicate 8 fresh)
 unfoldable pub openOf : Opening → Answer
 openOf o = record { outcome = openOutcome (o .first) (o .shares); tracker = opened o }
 
--- f of each element of a list, with its number, counted from k.
-abbrev pub mapFrom : {A : Type 0} → (ℕ → A → A) → ℕ → List A → List A
-mapFrom f k [] = []
-mapFrom f k (x ∷ xs) = f k x ∷ mapFrom f (suc k) xs
+-- A direction that is not there: what a list of states gives past its end. A tracker has eight, so that nobody meets it.
+abbrev pub blank : Direction
+blank = zeros (hundredths (pos 0)) false
 
 -- The states of the eight directions after one interval more, all by one step.
 unfoldable pub stepAll : List ℕ → List ℕ → List Direction → List Direction
-stepAll shares b ss = mapFrom (λ d s. stepOf settings d (eventOf shares d b) s) 0 ss
+stepAll shares b ss = ofDirections (λ d. stepOf settings d (eventOf shares d b) (getD ss d blank))
 
 unfoldable pub advanced : Tracker → List ℕ → Tracker
-advanced t b = tracker (t .shares) (number b) (suc (number b)) (stepAll (t .shares) b (t .directions))
+advanced t b = tracker (t .shares) (recordNumber b) (suc (recordNumber b)) (stepAll (t .shares) b (t .directions))
 
 -- An interval call. A refusal returns only its number, beside the tracker as it was.
 abbrev pub accepts : ℕ → List ℕ → Bool
@@ -79,21 +79,6 @@ row n d r next blocked flag s = record {
   flag = flag;
   clamp = s .clamp;
   notice = s .notice;
-}
-
--- A direction that is not there.
-abbrev pub blank : Direction
-blank = record {
-  sums = noSums;
-  period = None;
-  clamp = hundredths (pos 0);
-  counts = noCounts;
-  suspended = false;
-  residue = cents (pos 0);
-  next = cents (pos 0);
-  blocked = false;
-  flag = false;
-  notice = 0;
 }
 
 abbrev pub directionOf : Tracker → ℕ → Direction

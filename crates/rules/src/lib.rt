@@ -1,6 +1,15 @@
-// The types of the tracker. Their meaning is in specs/, in document 01's order; there is no code here.
+// The types of the tracker, and the numbers that several crates need. Their meaning is in specs/, in document 01's order; there is no code here.
 use units::Cents;
 use units::Hundredths;
+
+// The highest interval number.
+pub const HIGHEST_NUMBER: u32 = 1_051_199;
+
+// The length of a record in bytes.
+pub const RECORD: usize = 168;
+
+// A clamp that limits nothing: document 01's "swamped".
+pub const SWAMPED: Hundredths = Hundredths(2_000_000);
 
 // A corridor: the regions that it runs from and to, and its physical interconnectors, `lines` of them from number `first` on.
 pub struct Corridor {
@@ -44,7 +53,11 @@ pub struct Sums {
 // A management period: none, or first, last and whether extended.
 pub enum Period {
     None,
-    Held(u32, u32, bool),
+    Held {
+        first: u32,
+        last: u32,
+        extended: bool,
+    },
 }
 
 // What rule 4 leaves: the period, and the notice (1 start, 2 end, 0 none).

@@ -1,4 +1,4 @@
 -- Laws on signed numbers, stated once.
-pub mod Parts
+pub mod NatParts
 pub mod Calc
-pub mod Equal
+pub mod EqualBits

@@ -1,2 +1,2 @@
--- What the rules' functions may be asked.
-pub mod Range
+-- What the code of this crate needs beyond the rules.
+pub mod Internal

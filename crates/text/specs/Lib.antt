@@ -1,4 +1,4 @@
 -- Text as lists of bytes.
 pub mod Text
-pub mod Groups
+pub mod Internal
 pub mod Ascii

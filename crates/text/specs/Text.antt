@@ -1,10 +1,9 @@
--- Numbers as text, and text put into a buffer.
+-- Numbers as text.
 use mathlib.Core.Bool.{cond}
 use mathlib.Core.List.{List, [], _∷_, _++_}
 use Prim.Native.Nat.{ℕ, zero, suc, _+_, _/_, _%_}
 use lib.Dec.{ltb}
 use lib.IntN.{ℤ, pos, negsuc}
-use lib.ListN.{length, take, drop}
 
 -- the decimal digits of n, the most significant first, given that `turns` divisions by ten are enough
 unfoldable pub decimal : ℕ → ℕ → List ℕ
@@ -21,24 +20,12 @@ signedOf (pos n) = decOf n
 signedOf (negsuc n) = 45 ∷ decOf (suc n)
 
 -- a plain number, and a signed one, with the byte that ends it
-unfoldable pub countOf : ℕ → ℕ → List ℕ
-countOf n end = decOf n ++ (end ∷ [])
+unfoldable pub numberCell : ℕ → ℕ → List ℕ
+numberCell n ender = decOf n ++ (ender ∷ [])
 
-unfoldable pub cellOf : ℤ → ℕ → List ℕ
-cellOf z end = signedOf z ++ (end ∷ [])
+unfoldable pub signedCell : ℤ → ℕ → List ℕ
+signedCell z ender = signedOf z ++ (ender ∷ [])
 
--- the largest magnitude that is printed: no sum of a tracker reaches it
+-- above every magnitude that is printed: no sum of a tracker reaches it
 abbrev pub highestPrinted : ℕ
 highestPrinted = 6400000000000000
-
--- four bytes, the lowest first
-abbrev pub littleOf : ℕ → List ℕ
-littleOf n = n % 256 ∷ n / 256 % 256 ∷ n / 65536 % 256 ∷ n / 16777216 % 256 ∷ []
-
--- buffer d with p over it from place `at` on
-abbrev pub pasted : ℕ → List ℕ → List ℕ → List ℕ
-pasted at p d = take at d ++ (p ++ drop (at + length p) d)
-
--- buffer d with p over its start
-abbrev pub over : List ℕ → List ℕ → List ℕ
-over p d = p ++ drop (length p) d

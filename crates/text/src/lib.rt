@@ -1,132 +1,58 @@
-// Numbers as decimal text, and bytes, put into a lent buffer. Every writer has one form: it puts its bytes from a place on, gives the
-// place after them, and leaves every other byte as it was. So a caller chains them, and its own contract has the same form.
+// Numbers as decimal text, put into a lent buffer from their end on: dividing gives the last digits first. A writer here is told the place after
+// its bytes, gives the place where they begin, and leaves every other byte as it was.
 ghost use mathlib.Core.Path.{_≡_};
-ghost use Prim.Native.Nat.{_+_, _%_, _<_, _≤_};
-ghost use mathlib.Core.List.{_∷_, []};
+ghost use Prim.Native.Nat.{_<_, _≤_};
 ghost use lib.IntN.{natAbs};
-ghost use lib.ListN.{length};
 ghost use Rattle.signed.specs.Range.{negative};
-ghost use Rattle.text.specs.Text.{decOf, countOf, cellOf, littleOf, pasted, highestPrinted};
-ghost use Rattle.text.specs.Groups.{padded};
+ghost use Rattle.words.specs.Buffer.{Room, RoomBefore, Puts};
+ghost use Rattle.text.specs.Text.{decOf, numberCell, signedCell, highestPrinted};
+ghost use Rattle.text.specs.Internal.{padded};
 
-// One byte: the other writers are made of this one.
-pub fn put(out: &mut [u8], at: usize, b: u8) -> usize
-    requires { ⌜ at < length (now out) ⌝ }
-    ensures { λ r. ⌜ r ≡ at + 1 ⌝ }
-    ensures { λ r. ⌜ now (out .exit) ≡ pasted at (b ∷ []) (now (out .entry)) ⌝ }
-{
-    out[at] = b;
-    at + 1
-}
-
-fn digit(d: u64) -> u8
-    requires { ⌜ d < 10 ⌝ }
-    ensures { λ r. ⌜ r ≡ 48 + d ⌝ }
-{
-    48 + d as u8
-}
-
-// The digits are put in groups of two, four and eight, zeros in front included: a call and a division for each digit is what a listing would
-// mostly pay for.
+// The two digits of a number below 100. They are worked out as one number, in which 48 stands for the digit 0, and so stored at once.
 fn two(n: u64, out: &mut [u8], at: usize) -> usize
-    requires { ⌜ (n < 100) × (at + 2 ≤ length (now out)) ⌝ }
-    ensures { λ r. ⌜ r ≡ at + 2 ⌝ }
-    ensures { λ r. ⌜ now (out .exit) ≡ pasted at (padded 2 n) (now (out .entry)) ⌝ }
+    requires { ⌜ (n < 100) × Room (padded 2 n) at (now out) ⌝ }
+    ensures { λ r. ⌜ Puts (padded 2 n) at (now (out .entry)) r (now (out .exit)) ⌝ }
 {
-    let e = put(out, at, digit(n / 10));
-    put(out, e, digit(n % 10))
+    let pair = 48 + n / 10 + 256 * (48 + n % 10);
+    let e = words::put_byte((pair % 256) as u8, out, at);
+    words::put_byte((pair / 256) as u8, out, e)
 }
 
-fn four(n: u64, out: &mut [u8], at: usize) -> usize
-    requires { ⌜ (n < 10000) × (at + 4 ≤ length (now out)) ⌝ }
-    ensures { λ r. ⌜ r ≡ at + 4 ⌝ }
-    ensures { λ r. ⌜ now (out .exit) ≡ pasted at (padded 4 n) (now (out .entry)) ⌝ }
-{
-    let e = two(n / 100, out, at);
-    two(n % 100, out, e)
-}
-
-fn eight(n: u64, out: &mut [u8], at: usize) -> usize
-    requires { ⌜ (n < 100000000) × (at + 8 ≤ length (now out)) ⌝ }
-    ensures { λ r. ⌜ r ≡ at + 8 ⌝ }
-    ensures { λ r. ⌜ now (out .exit) ≡ pasted at (padded 8 n) (now (out .entry)) ⌝ }
-{
-    let e = four(n / 10000, out, at);
-    four(n % 10000, out, e)
-}
-
-// A number of at most two digits,
-fn up_to_two(n: u64, out: &mut [u8], at: usize) -> usize
-    requires { ⌜ (n < 100) × (at + length (decOf n) ≤ length (now out)) ⌝ }
-    ensures { λ r. ⌜ r ≡ at + length (decOf n) ⌝ }
-    ensures { λ r. ⌜ now (out .exit) ≡ pasted at (decOf n) (now (out .entry)) ⌝ }
+// The digits of a number that has one or two.
+fn one_or_two(n: u64, out: &mut [u8], end: usize) -> usize
+    requires { ⌜ (n < 100) × RoomBefore (decOf n) end (now out) ⌝ }
+    ensures { λ r. ⌜ Puts (decOf n) r (now (out .entry)) end (now (out .exit)) ⌝ }
 {
     if n < 10 {
-        return put(out, at, digit(n));
+        return words::put_byte_before(48 + n as u8, out, end);
     }
-    two(n, out, at)
+    let at = end - 2;
+    two(n, out, at);
+    at
 }
 
-// of at most four,
-fn up_to_four(n: u64, out: &mut [u8], at: usize) -> usize
-    requires { ⌜ (n < 10000) × (at + length (decOf n) ≤ length (now out)) ⌝ }
-    ensures { λ r. ⌜ r ≡ at + length (decOf n) ⌝ }
-    ensures { λ r. ⌜ now (out .exit) ≡ pasted at (decOf n) (now (out .entry)) ⌝ }
+// The digits of any number, two at a time.
+fn digits(n: u64, out: &mut [u8], end: usize) -> usize
+    requires { ⌜ RoomBefore (decOf n) end (now out) ⌝ }
+    ensures { λ r. ⌜ Puts (decOf n) r (now (out .entry)) end (now (out .exit)) ⌝ }
 {
-    if n < 100 {
-        return up_to_two(n, out, at);
+    let mut rest = n;
+    let mut at = end;
+    while 100 <= rest {
+        at -= 2;
+        two(rest % 100, out, at);
+        rest /= 100;
     }
-    let e = up_to_two(n / 100, out, at);
-    two(n % 100, out, e)
-}
-
-// of at most eight,
-fn up_to_eight(n: u64, out: &mut [u8], at: usize) -> usize
-    requires { ⌜ (n < 100000000) × (at + length (decOf n) ≤ length (now out)) ⌝ }
-    ensures { λ r. ⌜ r ≡ at + length (decOf n) ⌝ }
-    ensures { λ r. ⌜ now (out .exit) ≡ pasted at (decOf n) (now (out .entry)) ⌝ }
-{
-    if n < 10000 {
-        return up_to_four(n, out, at);
-    }
-    let e = up_to_four(n / 10000, out, at);
-    four(n % 10000, out, e)
-}
-
-// of at most twelve: as many as the largest number has before its last eight.
-fn up_to_twelve(n: u64, out: &mut [u8], at: usize) -> usize
-    requires { ⌜ (n < 1000000000000) × (at + length (decOf n) ≤ length (now out)) ⌝ }
-    ensures { λ r. ⌜ r ≡ at + length (decOf n) ⌝ }
-    ensures { λ r. ⌜ now (out .exit) ≡ pasted at (decOf n) (now (out .entry)) ⌝ }
-{
-    if n < 100000000 {
-        return up_to_eight(n, out, at);
-    }
-    let e = up_to_four(n / 100000000, out, at);
-    eight(n % 100000000, out, e)
-}
-
-// The decimal digits of n, for numbers that something other than a byte ends.
-pub fn number(n: u64, out: &mut [u8], at: usize) -> usize
-    requires { ⌜ at + length (decOf n) ≤ length (now out) ⌝ }
-    ensures { λ r. ⌜ r ≡ at + length (decOf n) ⌝ }
-    ensures { λ r. ⌜ now (out .exit) ≡ pasted at (decOf n) (now (out .entry)) ⌝ }
-{
-    if n < 100000000 {
-        return up_to_eight(n, out, at);
-    }
-    let e = up_to_twelve(n / 100000000, out, at);
-    eight(n % 100000000, out, e)
+    one_or_two(rest, out, at)
 }
 
 // A plain number and the byte that ends it, a comma or a line's end: an interval's number, a refusal's.
-pub fn count(n: u64, end: u8, out: &mut [u8], at: usize) -> usize
-    requires { ⌜ at + length (countOf n end) ≤ length (now out) ⌝ }
-    ensures { λ r. ⌜ r ≡ at + length (countOf n end) ⌝ }
-    ensures { λ r. ⌜ now (out .exit) ≡ pasted at (countOf n end) (now (out .entry)) ⌝ }
+pub fn number(n: u64, ender: u8, out: &mut [u8], end: usize) -> usize
+    requires { ⌜ RoomBefore (numberCell n ender) end (now out) ⌝ }
+    ensures { λ r. ⌜ Puts (numberCell n ender) r (now (out .entry)) end (now (out .exit)) ⌝ }
 {
-    let e = number(n, out, at);
-    put(out, e, end)
+    let at = words::put_byte_before(ender, out, end);
+    digits(n, out, at)
 }
 
 // The digits of an amount or of a flow, without the unit. Private: a number is printed only as what it is, by `cents` or `hundredths`.
@@ -152,65 +78,29 @@ impl Plain {
 }
 
 // A signed number and the byte that ends it.
-fn cell(z: Plain, end: u8, out: &mut [u8], at: usize) -> usize
-    requires { ⌜ (natAbs (z .0) ≤ highestPrinted) × (at + length (cellOf (z .0) end) ≤ length (now out)) ⌝ }
-    ensures { λ r. ⌜ r ≡ at + length (cellOf (z .0) end) ⌝ }
-    ensures { λ r. ⌜ now (out .exit) ≡ pasted at (cellOf (z .0) end) (now (out .entry)) ⌝ }
+fn signed(z: Plain, ender: u8, out: &mut [u8], end: usize) -> usize
+    requires { ⌜ (natAbs (z .0) ≤ highestPrinted) × RoomBefore (signedCell (z .0) ender) end (now out) ⌝ }
+    ensures { λ r. ⌜ Puts (signedCell (z .0) ender) r (now (out .entry)) end (now (out .exit)) ⌝ }
 {
-    let m = z.magnitude();
+    let at = number(z.magnitude(), ender, out, end);
     if z.is_negative() {
-        let e = put(out, at, b'-');
-        return count(m, end, out, e);
+        return words::put_byte_before(b'-', out, at);
     }
-    count(m, end, out, at)
+    at
 }
 
 // An amount, in cents: the listing's amount, previous, current and next.
-pub fn cents(z: units::Cents, end: u8, out: &mut [u8], at: usize) -> usize
-    requires { ⌜ (natAbs (z .0) ≤ highestPrinted) × (at + length (cellOf (z .0) end) ≤ length (now out)) ⌝ }
-    ensures { λ r. ⌜ r ≡ at + length (cellOf (z .0) end) ⌝ }
-    ensures { λ r. ⌜ now (out .exit) ≡ pasted at (cellOf (z .0) end) (now (out .entry)) ⌝ }
+pub fn cents(z: units::Cents, ender: u8, out: &mut [u8], end: usize) -> usize
+    requires { ⌜ (natAbs (z .0) ≤ highestPrinted) × RoomBefore (signedCell (z .0) ender) end (now out) ⌝ }
+    ensures { λ r. ⌜ Puts (signedCell (z .0) ender) r (now (out .entry)) end (now (out .exit)) ⌝ }
 {
-    cell(Plain(z.0), end, out, at)
+    signed(Plain(z.0), ender, out, end)
 }
 
 // A clamp, in hundredths of a MW.
-pub fn hundredths(z: units::Hundredths, end: u8, out: &mut [u8], at: usize) -> usize
-    requires { ⌜ (natAbs (z .0) ≤ highestPrinted) × (at + length (cellOf (z .0) end) ≤ length (now out)) ⌝ }
-    ensures { λ r. ⌜ r ≡ at + length (cellOf (z .0) end) ⌝ }
-    ensures { λ r. ⌜ now (out .exit) ≡ pasted at (cellOf (z .0) end) (now (out .entry)) ⌝ }
+pub fn hundredths(z: units::Hundredths, ender: u8, out: &mut [u8], end: usize) -> usize
+    requires { ⌜ (natAbs (z .0) ≤ highestPrinted) × RoomBefore (signedCell (z .0) ender) end (now out) ⌝ }
+    ensures { λ r. ⌜ Puts (signedCell (z .0) ender) r (now (out .entry)) end (now (out .exit)) ⌝ }
 {
-    cell(Plain(z.0), end, out, at)
-}
-
-// Bytes as they stand: names, the header, records.
-pub fn text(src: &[u8], out: &mut [u8], at: usize) -> usize
-    requires { ⌜ at + length (now src) ≤ length (now out) ⌝ }
-    ensures { λ r. ⌜ r ≡ at + length (now (src .entry)) ⌝ }
-    ensures { λ r. ⌜ now (out .exit) ≡ pasted at (now (src .entry)) (now (out .entry)) ⌝ }
-{
-    let mut i = 0;
-    while i < src.len() {
-        out[at + i] = src[i];
-        i += 1;
-    }
-    at + i
-}
-
-fn low(n: u32) -> u8
-    ensures { λ r. ⌜ r ≡ n % 256 ⌝ }
-{
-    (n % 256) as u8
-}
-
-// A u32, little-endian: the words of a journal's trailer.
-pub fn word(n: u32, out: &mut [u8], at: usize) -> usize
-    requires { ⌜ at + length (littleOf n) ≤ length (now out) ⌝ }
-    ensures { λ r. ⌜ r ≡ at + length (littleOf n) ⌝ }
-    ensures { λ r. ⌜ now (out .exit) ≡ pasted at (littleOf n) (now (out .entry)) ⌝ }
-{
-    let a = put(out, at, low(n));
-    let b = put(out, a, low(n / 256));
-    let c = put(out, b, low(n / 65536));
-    put(out, c, low(n / 16777216))
+    signed(Plain(z.0), ender, out, end)
 }

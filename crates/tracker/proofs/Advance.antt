@@ -10,20 +10,19 @@ use lib.ListN.{length, getD, List·getD-eq-default}
 use Rattle.rules.specs.declared.Event.{Event}
 use Rattle.rules.specs.declared.Tracker.{Tracker}
 use Rattle.rules.specs.Interval.{settings, stepOf}
-use Rattle.rules.specs.Record.{number, targetSum, eventOf}
-use Rattle.rules.specs.Tracker.{sharesOf, accepts, directionOf, stepAll}
+use Rattle.rules.specs.Record.{recordNumber, targetSum, eventOf}
+use Rattle.rules.specs.Tracker.{sharesOf, accepts, blank, directionOf, stepAll}
 use Rattle.rules.specs.Claim.{Came}
 use Rattle.rules.proofs.Accepted.{Sound, accepted-is}
 use Rattle.rules.proofs.Came.{replayed}
-use Rattle.rules.proofs.Each.{map-same}
-use Rattle.rules.proofs.Limits.{event-size, bounds}
+use Rattle.rules.proofs.Directions.{at-direction, same-directions}
+use Rattle.rules.proofs.StateBounds.{event-size, bounds}
 use Rattle.rules.proofs.Replay.{event-number}
-use Rattle.rules.proofs.Ranges.{target-sum-bound, share-bound}
-use Rattle.residue.specs.Directions.{ofDirections}
-use Rattle.events.specs.Event.{Readable}
-use Rattle.events.proofs.Says.{at-direction}
-use Rattle.step.specs.Range.{Steppable}
-use Rattle.tracker.specs.Steps.{noEvent, AllSteppable, allStepped}
+use Rattle.rules.proofs.RecordRanges.{target-sum-bound, share-bound}
+use Rattle.rules.specs.Market.{ofDirections}
+use Rattle.events.specs.Internal.{Readable}
+use Rattle.step.specs.Internal.{Steppable}
+use Rattle.tracker.specs.Internal.{noEvent, AllSteppable, stepped, allStepped}
 
 event-target : (shares : List ℕ) (d : ℕ) (b : List ℕ) → eventOf shares d b .target ≡ targetSum b d
 unfolding eventOf
@@ -34,7 +33,7 @@ module _ (t : Tracker) (came : Came t) (b : List ℕ) (ok : accepts (t .awaited)
   sound = accepted-is (t .awaited) b ok
 
   -- the record is accepted at its own number
-  own : Sound (number b) b
+  own : Sound (recordNumber b) b
   own = subst (λ (n : ℕ). Sound n b) (sym (sound .in-turn)) sound
 
   shares-are : t .shares ≡ sharesOf (came .opening)
@@ -55,7 +54,7 @@ module _ (t : Tracker) (came : Came t) (b : List ℕ) (ok : accepts (t .awaited)
         number = rw (event-number (t .shares) d b) (omega (arith, own .in-range));
         residue = rw shares-are (sizes .0);
         next = rw shares-are (sizes .1);
-        target = rw (event-target (t .shares) d b) (target-sum-bound (number b) b own d);
+        target = rw (event-target (t .shares) d b) (target-sum-bound (recordNumber b) b own d);
         state = rw (event-number (t .shares) d b, sound .in-turn) (bounds t came .each d l);
       }
 
@@ -68,6 +67,4 @@ module _ (t : Tracker) (came : Came t) (b : List ℕ) (ok : accepts (t .awaited)
 
     pub stepped-is : allStepped events (t .directions) ≡ stepAll (t .shares) b (t .directions)
     unfolding stepAll
-    stepped-is =
-        map-same (λ d s. stepOf settings d (getD events d noEvent) s) (λ d s. stepOf settings d (eventOf (t .shares) d b) s) 0 8
-        (λ d l s. rw (says d l)) (t .directions) (omega (arith, replayed t came .eight))
+    stepped-is = same-directions (stepped events (t .directions)) (λ d. stepOf settings d (eventOf (t .shares) d b) (directionOf t d)) blank (λ d l. rw (says d l))

@@ -9,7 +9,7 @@ use Rattle.rules.specs.Interval.{fresh}
 use Rattle.rules.specs.Refusal.{openOutcome}
 use Rattle.rules.specs.Tracker.{tracker, openOf}
 use Rattle.tracker.specs.Promise.{opening}
-use Rattle.tracker.specs.Steps.{refusedOpening}
+use Rattle.tracker.specs.Internal.{refusedOpening}
 
 module _ (first : ℕ) (shares : List ℕ) where
   pub refused : {k : ℕ} → openOutcome first shares ≡ Refused k → openOf (opening first shares) ≡ refusedOpening k

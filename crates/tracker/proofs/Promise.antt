@@ -23,12 +23,14 @@ use Rattle.rules.specs.Tracker.{Opening, firstOf, openOf, intervalOf, rowOf, no
 use Rattle.rules.specs.History.{sumSince, estimate, underReview, liesIn}
 use Rattle.rules.specs.Claim.{accepted, history, awaitedFrom, workedFrom}
 use Rattle.rules.proofs.Came as rules
-use Rattle.rules.proofs.Limits.{row-bounds}
-pub use Rattle.rules.proofs.Scan.{both-false}
+use Rattle.rules.proofs.StateBounds.{row-bounds}
+pub use Rattle.rules.proofs.EachBelow.{both-false}
+pub use Rattle.rules.proofs.Directions.{at-direction}
 pub use Rattle.rules.proofs.Accepted.{accepted-iff, number-met}
-pub use Rattle.rules.proofs.ByClaim.{NoCause, not-without-cause, clamped-at, amount-is}
+pub use Rattle.rules.proofs.FirstMet.{Passed, never, untested, pass, refused-at, accepted-past}
+pub use Rattle.rules.proofs.FromClaim.{NoCause, not-without-cause, clamped-at, amount-is}
 pub use Rattle.rules.proofs.Refusals.{numbers}
-pub use Rattle.rules.proofs.Longer.{refused-longer, accepted-longer, awaits-one-more, shows-awaited, worked-direction}
+pub use Rattle.rules.proofs.OneCallMore.{refused-longer, accepted-longer, awaits-one-more, shows-awaited, worked-direction}
 use Rattle.tracker.specs.Promise.{Came, OpenPromise, CallAfter, IntervalPromise, RowPromise}
 
 pub came-open : (o : Opening) → Came (openOf o .tracker)

@@ -1,3 +1,3 @@
 -- What the calls promise, and what the functions below them are asked.
 pub mod Promise
-pub mod Steps
+pub mod Internal

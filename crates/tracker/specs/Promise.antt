@@ -1,5 +1,5 @@
--- What crates above the tracker may cite, and nothing else of it or below it (with the laws of proofs/Promise): the words of the three
--- calls and of demand 3, and what the calls promise by them. What lies under these words is not opened from above: the tests of numbers 4 to 8,
+-- What crates above the tracker may cite, and nothing else of it or of the crates that it is made of (with the laws of proofs/Promise): the words
+-- of the three calls and of demand 3, and what the calls promise by them. (Crate `words`, which reads and writes bytes for all, is no part of it.) What lies under these words is not opened from above: the tests of numbers 4 to 8,
 -- what a record says of a direction (eventOf), and what the rules make of its history (stateAfter).
 use mathlib.Core.List.{List, [], _∷_, _++_}
 use mathlib.Core.Path.{_≡_}
@@ -21,8 +21,8 @@ pub use Rattle.rules.specs.declared.Answer.{Answer}
 pub use Rattle.rules.specs.declared.RowAnswer.{RowAnswer}
 -- the number of a record and how bytes make it, and how conditions in their order make an outcome
 unfoldable pub use Rattle.rules.specs.Record.{u32At}
-pub use Rattle.rules.specs.Record.{number}
-pub use Rattle.rules.specs.Refusal.{numberOf, isAccepted, Condition, _⇒_, judged, numberMet}
+pub use Rattle.rules.specs.Record.{recordNumber}
+pub use Rattle.rules.specs.Refusal.{numberOf, isAccepted, Condition, _when_, judged, numberMet}
 unfoldable pub use Rattle.rules.specs.Refusal.{openConditions, intervalConditions, rowConditions}
 -- the calls, a list of them from an opening, and that a tracker came from such a list
 pub use Rattle.rules.specs.Tracker.{Opening, firstOf, sharesOf, accepts, openOf, intervalOf, rowOf, noRow, rowAnswer, after}
@@ -34,7 +34,7 @@ pub use Rattle.rules.specs.Record.{eventOf}
 pub use Rattle.rules.specs.Interval.{fresh}
 pub use Rattle.rules.specs.History.{stateAfter}
 pub use Rattle.rules.specs.Tracker.{row}
-unfoldable pub use Rattle.rules.specs.Claim.{hear, accepted, history, workedRow}
+unfoldable pub use Rattle.rules.specs.Claim.{acceptCall, accepted, history, workedRow}
 pub use Rattle.rules.specs.Claim.{awaitedAfter, awaitedFrom, workedFrom}
 -- the words of demand 3 about a history, and the claim with its parts
 pub use Rattle.rules.specs.Interval.{Settings, settings, place, halfHour, atThreshold}
@@ -42,6 +42,8 @@ unfoldable pub use Rattle.rules.specs.Interval.{clearsAt}
 unfoldable pub use Rattle.rules.specs.History.{inHalfHour, latestHalfHour, anyNegative, clearing, sinceClearing, sumNegative}
 pub use Rattle.rules.specs.History.{sumSince, estimate, underReview, gotThere, GotThereWithin, liesIn}
 pub use Rattle.rules.specs.Claim.{DirectionClaim, ClaimOf, Claim}
+-- one value for each of the eight directions
+pub use Rattle.rules.specs.Market.{ofDirections}
 -- how large the numbers of a row get
 pub use Rattle.rules.specs.Bounds.{highestResidue, highestNext, highestSum, RowBounds}
 

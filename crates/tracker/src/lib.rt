@@ -3,10 +3,12 @@ use rules::Answer;
 use rules::Counts;
 use rules::Direction;
 use rules::Event;
+use rules::HIGHEST_NUMBER;
 use rules::Outcome;
 use rules::Period;
 use rules::Row;
 use rules::RowAnswer;
+use rules::SWAMPED;
 use rules::Sums;
 use rules::Tracker;
 use units::Cents;
@@ -19,11 +21,7 @@ ghost use Rattle.rules.specs.Interval.{fresh};
 ghost use Rattle.rules.specs.Refusal.{each, shareOk};
 ghost use Rattle.rules.specs.Tracker.{tracker, accepts, advanced, rowOf, noRow};
 ghost use Rattle.tracker.specs.Promise.{Came, OpenPromise, IntervalPromise, RowPromise, opening};
-ghost use Rattle.tracker.specs.Steps.{AllSteppable, allStepped, refusedOpening};
-
-const LAST_NUMBER: u32 = 1_051_199;
-
-const SWAMPED: Hundredths = Hundredths(2_000_000);
+ghost use Rattle.tracker.specs.Internal.{AllSteppable, allStepped, refusedOpening};
 
 // Is no share above 1000?
 fn shares_ok(shares: [u16; 6]) -> bool
@@ -92,7 +90,7 @@ fn refused_opening(number: u8) -> Answer
 pub fn open(first: u32, shares: [u16; 6]) -> Answer
     ensures { λ r. ⌜ OpenPromise (opening first shares) r ⌝ }
 {
-    if LAST_NUMBER < first {
+    if HIGHEST_NUMBER < first {
         return refused_opening(9);
     }
     if first % 6 != 0 {
@@ -132,7 +130,7 @@ fn advanced(t: Tracker, bytes: &[u8]) -> Tracker
     let events = events::events(shares, bytes);
     let kept = t.directions;
     let directions = step_all(events, kept);
-    let n = words::u32_at(bytes, 0);
+    let n = record::number(bytes);
     Tracker {
         shares: shares,
         shown: n,
@@ -146,7 +144,7 @@ pub fn interval(tracker: Tracker, bytes: &[u8]) -> Answer
     requires { ⌜ Came tracker ⌝ }
     ensures { λ r. ⌜ IntervalPromise tracker (now (bytes .entry)) r ⌝ }
 {
-    let outcome = record::judged(tracker.awaited, bytes);
+    let outcome = record::interval_outcome(tracker.awaited, bytes);
     match outcome {
         Outcome::Accepted => {
             let t = advanced(tracker, bytes);
@@ -181,10 +179,10 @@ fn row_of(t: Tracker, d: usize) -> Row
         n: t.shown,
         direction: d,
         residue: residue,
-        applies: !step::is_swamped(clamp),
+        applies: !clamp::is_swamped(clamp),
         previous: previous,
         current: current,
-        amount: step::amount(sums),
+        amount: sums::amount(sums),
         next: next,
         net: net,
         period: period,

@@ -1,2 +1,3 @@
--- A byte as it is read.
-pub mod Byte
+-- Bytes in a buffer, and what the code of this crate needs beyond that.
+pub mod Buffer
+pub mod Internal

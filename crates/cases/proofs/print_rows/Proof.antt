@@ -11,26 +11,11 @@ Inv-loop t d₀ d = d ≤ 8
 abbrev μ-loop : tie.MeasureT-loop
 μ-loop t d₀ d = 8 - d
 
-loop-holds : tie.Need-loop-holds Inv-loop μ-loop
-loop-holds c = search needs
-
 row-requires : tie.Need-row-requires Inv-loop μ-loop
 row-requires c κs = c .before .before .pre
 
 print-row-requires : tie.Need-print-row-requires Inv-loop μ-loop
 print-row-requires c κs = c .row .ensures .bounded
-
-add-d : tie.Need-add-d Inv-loop μ-loop
-add-d c = search needs
-
-loop-less : tie.Need-loop-less Inv-loop μ-loop
-loop-less c = search needs
-
-loop-again : tie.Need-loop-again Inv-loop μ-loop
-loop-again c = search needs
-
-returns : tie.Need-returns Inv-loop μ-loop
-returns c = search needs
 
 pub print-rows-spec : {M : Type 1} → statement M
 print-rows-spec =
@@ -38,10 +23,10 @@ print-rows-spec =
     (tie.spec
     Inv-loop
     μ-loop
-    loop-holds
+    (λ c. search needs)
     row-requires
     print-row-requires
-    add-d
-    loop-less
-    loop-again
-    returns)
+    (λ c. search needs)
+    (λ c. search needs)
+    (λ c. search needs)
+    (λ c. search needs))

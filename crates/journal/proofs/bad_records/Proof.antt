@@ -1,7 +1,7 @@
 -- `journal::bad_records` meets its contract: the two tests of the length, in the definition's order.
 -- Assumes nothing.
 use borrow.Author.Tests.{eq-eqb, ne-eqb}
-use Rattle.journal.specs.Journal.{badRecords}
+use Rattle.journal_rules.specs.Journal.{badRecords}
 use Rattle.journal.proofs.bad_records.Statement.{statement}
 use Rattle.journal.proofs.bad_records.Tie as tie
 

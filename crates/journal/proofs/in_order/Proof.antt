@@ -1,14 +1,13 @@
 -- `journal::in_order` meets its contract. The invariant: the records up to number i are in order.
 -- Assumes nothing.
-use mathlib.Core.Path.{_≡_, refl, sym, ap, _∙_}
-use mathlib.Core.Bool.{true}
-use Prim.Native.Nat.{_-_, _/_, _≤_}
+use mathlib.Core.Path.{_≡_, refl, sym}
+use mathlib.Core.Bool.{true, false}
+use Prim.Native.Nat.{suc, _+_, _-_, _≤_}
 use native.Mathlib.Omega.{arith}
-use lib.ListN.{length}
 use borrow.Author.Needs.{needs}
-use borrow.Author.Tests.{not-true, not-false}
-use Rattle.journal.specs.Journal.{inOrderTo}
-use Rattle.journal.proofs.Order.{next, turn, stops}
+use borrow.Author.Tests.{eq-eqb, ne-eqb}
+use Rattle.journal_rules.specs.Journal.{recordCount, inOrderTo}
+use Rattle.journal_rules.proofs.InOrder.{next, goes-on, stops}
 use Rattle.journal.proofs.in_order.Statement.{statement}
 use Rattle.journal.proofs.in_order.Tie as tie
 
@@ -18,54 +17,31 @@ Inv-loop records count i₀ i = (i ≤ count - 1) × (inOrderTo records i ≡ tr
 abbrev μ-loop : tie.MeasureT-loop
 μ-loop records count i₀ i = count - i
 
--- what `follows` says of the two records
-told : (c : tie.After-follows Inv-loop μ-loop)
-    → c .follows .result ≡ next (c .before .before .before .before .before .before .args .records .now) (c .before .before .before .before .loop .i)
-told c = c .follows .ensures ∙ rw (c .before .number-at2 .ensures, c .before .before .number-at .ensures)
-
 loop-holds : tie.Need-loop-holds Inv-loop μ-loop
 unfolding inOrderTo
 loop-holds c = (omega arith, refl)
 
-add-loop : tie.Need-add-loop Inv-loop μ-loop
-add-loop c = search needs
-
-number-at-requires : tie.Need-number-at-requires Inv-loop μ-loop
-number-at-requires c κs = search needs
-
-add-number-at : tie.Need-add-number-at Inv-loop μ-loop
-add-number-at c = search needs
-
-number-at-requires-2 : tie.Need-number-at-requires-2 Inv-loop μ-loop
-number-at-requires-2 c κs = search needs
-
-follows-requires : tie.Need-follows-requires Inv-loop μ-loop
-follows-requires c κs = search needs
-
 returns : tie.Need-returns Inv-loop μ-loop
 returns c =
-    let l = c .before .before .before .before .before in
+    let l = c .before .before .before .before in
     let r = l .before .before .args .records .now in
-    sym (stops r (l .loop .i) (length r / 168 - 1) (omega arith) (sym (told (c .before)) ∙ not-true _ (c .if1 .taken)))
-
-add-i : tie.Need-add-i Inv-loop μ-loop
-add-i c = search needs
-
-loop-less : tie.Need-loop-less Inv-loop μ-loop
-loop-less c = search needs
+    let i = l .loop .i in
+    let stop : next r i ≡ false = rw (← c .before .number-at2 .ensures, ← c .before .before .number-at .ensures) (ne-eqb _ _ (c .if1 .taken)) in
+    let later : recordCount r - 1 ≡ suc (i + (recordCount r - 2 - i)) = omega arith in
+    sym (rw later (stops r i (recordCount r - 2 - i) stop))
 
 loop-again : tie.Need-loop-again Inv-loop μ-loop
 loop-again c =
-    let l = c .before .before .before .before .before in (
-      omega arith,
-      turn (l .before .before .args .records .now) (l .loop .i) (l .loop .inv .1) (sym (told (c .before)) ∙ not-false _ (c .if1 .left)),
-    )
+    let l = c .before .before .before .before in
+    let r = l .before .before .args .records .now in
+    let go : next r (l .loop .i) ≡ true = rw (← c .before .number-at2 .ensures, ← c .before .before .number-at .ensures) (eq-eqb _ _ (c .if1 .left)) in
+    (omega arith, goes-on r (l .loop .i) (l .loop .inv .1) go)
 
 returns-2 : tie.Need-returns-2 Inv-loop μ-loop
 returns-2 c =
     let r = c .before .before .before .args .records .now in
-    let e : c .before .loop .i ≡ length r / 168 - 1 = omega arith in
-    sym (ap (inOrderTo r) (sym e) ∙ c .before .loop .inv .1)
+    let e : recordCount r - 1 ≡ c .before .loop .i = omega arith in
+    sym (rw e (c .before .loop .inv .1))
 
 pub in-order-spec : {M : Type 1} → statement M
 in-order-spec =
@@ -74,13 +50,15 @@ in-order-spec =
     Inv-loop
     μ-loop
     loop-holds
-    add-loop
-    number-at-requires
-    add-number-at
-    number-at-requires-2
-    follows-requires
+    (λ c. search needs)
+    (λ c κs. search needs)
+    (λ c. search needs)
+    (λ c. search needs)
+    (λ c κs. search needs)
+    (λ c. search needs)
+    (λ c. search needs)
     returns
-    add-i
-    loop-less
+    (λ c. search needs)
+    (λ c. search needs)
     loop-again
     returns-2)

@@ -1,53 +1,33 @@
--- `listing::line` meets its contract: the cells, each after what is there already.
+-- `listing::line` meets its contract: what stands at the end of the line's own buffer is the line.
 -- Assumes nothing.
+use mathlib.Core.Path.{_≡_}
+use Prim.Native.Nat.{_-_}
 use native.Mathlib.Omega.{arith}
-use Rattle.listing.specs.Line.{lineCells, lineOf}
-use Rattle.listing.proofs.Bound.{spread}
-use Rattle.listing.proofs.Cells.{begin, next, done}
+use lib.ListN.{take, drop}
 use borrow.Author.Needs.{needs}
+use Rattle.words.proofs.Parts.{part-put}
+use Rattle.listing.specs.Line.{lineOf}
+use Rattle.listing.specs.Listing.{longestLine}
+use Rattle.listing.proofs.LineLength.{line-short}
 use Rattle.listing.proofs.line.Statement.{statement}
 use Rattle.listing.proofs.line.Tie as tie
 
-cast-count : tie.Need-cast-count
-cast-count c = search needs
+-- the part of the line's own buffer that is copied
+is-line : (k : tie.After-line-before)
+    → let from = k .line-before .result in
+    take (longestLine - from) (drop from (k .line-before .last .1 .0)) ≡ lineOf (k .before .before .before .args .row)
+is-line k = part-put (omega (arith, k .line-before .ensures .place)) (k .line-before .ensures)
 
-count-requires : tie.Need-count-requires
-count-requires c κs = omega (arith, spread (c .before .before .before .args .row))
+line-before-requires : tie.Need-line-before-requires
+line-before-requires c κs = let s = c .before .before in (s .pre .0, (line-short (s .args .row) (s .pre .0), search needs))
 
-name-requires : tie.Need-name-requires
-name-requires c κs = (c .before .before .before .before .before .before .before .pre .0 .direction, omega (arith, spread (c .before .before .before .before .before .before .before .args .row)))
-
-yes-no-requires : tie.Need-yes-no-requires
-yes-no-requires c κs = omega (arith, spread (c .before .before .before .before .before .before .before .before .before .before .before .args .row))
-
-amounts-requires : tie.Need-amounts-requires
-amounts-requires c κs = (c .before .before .before .before .before .before .before .before .before .before .before .before .before .before .before .pre .0, omega (arith, spread (c .before .before .before .before .before .before .before .before .before .before .before .before .before .before .before .args .row)))
-
-hundredths-requires : tie.Need-hundredths-requires
-hundredths-requires c κs = (omega arith, omega (arith, spread (c .before .before .before .before .before .before .before .before .before .before .before .before .before .before .before .before .before .before .before .args .row)))
-
-same-length : tie.Need-same-length
-same-length c = search needs
+put-bytes-requires : tie.Need-put-bytes-requires
+put-bytes-requires c κs = let k = c .before .before .before .before in rw (is-line k) (k .before .before .before .pre .1)
 
 returns : tie.Need-returns
-unfolding lineOf
-returns c =
-    let s = c .before .before .before .before .before .before .before .before .before .before .before .before .before .before .before .before .before .before .before .before .before .before in
-    let l1 = next (begin (lineCells (s .args .row)) (s .args .out .now) (s .args .at) (s .pre .1)) (c .before .before .before .before .before .before .before .before .before .before .before .before .before .before .before .before .before .before .count .ensures) in
-    let l2 = next l1 (c .before .before .before .before .before .before .before .before .before .before .before .before .before .before .name .ensures) in
-    let l3 = next l2 (c .before .before .before .before .before .before .before .before .before .before .yes-no .ensures) in
-    let l4 = next l3 (c .before .before .before .before .before .before .amounts .ensures) in
-    done (next l4 (c .before .before .hundredths .ensures))
+returns c = let k = c .before .before .before .before .before in rw (is-line (k .before .before)) at (c .before .before .put-bytes .ensures)
 
 pub line-spec : {M : Type 1} → statement M
 line-spec =
     tie.close
-    (tie.spec
-    cast-count
-    count-requires
-    name-requires
-    yes-no-requires
-    amounts-requires
-    hundredths-requires
-    same-length
-    returns)
+    (tie.spec (search needs) line-before-requires (search needs) (search needs) (search needs) put-bytes-requires (search needs) returns)

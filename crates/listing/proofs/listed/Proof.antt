@@ -6,15 +6,9 @@ use borrow.Author.Needs.{needs}
 use Rattle.listing.proofs.listed.Statement.{statement}
 use Rattle.listing.proofs.listed.Tie as tie
 
-is-negative-requires : tie.Need-is-negative-requires
-is-negative-requires c κs = search needs
-
 returns : tie.Need-returns
 unfolding listedOf
 returns c = simp (sym (c .before .is-negative .ensures) ∙ c .if1 .taken)
-
-is-negative-requires-2 : tie.Need-is-negative-requires-2
-is-negative-requires-2 c κs = search needs
 
 returns-2 : tie.Need-returns-2
 unfolding listedOf
@@ -26,4 +20,4 @@ returns-3 c = simp (sym (c .before .before .before .before .is-negative .ensures
 
 pub listed-spec : {M : Type 1} → statement M
 listed-spec =
-    tie.close (tie.spec is-negative-requires returns is-negative-requires-2 returns-2 returns-3)
+    tie.close (tie.spec (λ c κs. search needs) returns (λ c κs. search needs) returns-2 returns-3)

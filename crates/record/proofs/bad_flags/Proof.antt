@@ -8,36 +8,27 @@ use Rattle.rules.specs.Refusal.{badFlags}
 use Rattle.record.proofs.bad_flags.Statement.{statement}
 use Rattle.record.proofs.bad_flags.Tie as tie
 
-shared-slice-read-if1 : tie.Need-shared-slice-read-if1
-shared-slice-read-if1 c = search needs
-
 returns : tie.Need-returns
 unfolding badFlags
 returns c = rw (ne-eqb _ 0 (c .if1 .taken))
 
-ahead-misplaced-requires : tie.Need-ahead-misplaced-requires
-ahead-misplaced-requires c κs = search needs
-
 returns-2 : tie.Need-returns-2
 unfolding badFlags
-returns-2 c = rw (eq-eqb _ 0 (c .before .before .if1 .left), sym (c .before .ahead-misplaced .ensures) ∙ c .if2 .taken)
-
-zero-bytes-requires : tie.Need-zero-bytes-requires
-zero-bytes-requires c κs = search needs
+returns-2 c = rw (eq-eqb _ 0 (c .before .before .if1 .left), sym (c .before .pre-dispatch-misplaced .ensures) ∙ c .if2 .taken)
 
 returns-3 : tie.Need-returns-3
 unfolding badFlags
 returns-3 c =
-    rw (eq-eqb _ 0 (c .before .before .before .if1 .left), sym (c .before .before .ahead-misplaced .ensures) ∙ c .before .if2 .left)
+    rw (eq-eqb _ 0 (c .before .before .before .if1 .left), sym (c .before .before .pre-dispatch-misplaced .ensures) ∙ c .before .if2 .left)
     (ap not (c .zero-bytes .ensures))
 
 pub bad-flags-spec : {M : Type 1} → statement M
 bad-flags-spec =
     tie.close
     (tie.spec
-    shared-slice-read-if1
+    (λ c. search needs)
     returns
-    ahead-misplaced-requires
+    (λ c κs. search needs)
     returns-2
-    zero-bytes-requires
+    (λ c κs. search needs)
     returns-3)

@@ -9,7 +9,7 @@ use borrow.Author.Needs.{needs}
 use borrow.Author.Tests.{not-true, not-false}
 use Rattle.rules.specs.Record.{statusByte}
 use Rattle.rules.specs.Refusal.{each, statusOk, badStatus}
-use Rattle.record.proofs.Scan.{none, more, whole, failed}
+use Rattle.rules.proofs.EachBelow.{each-none, each-one-more, each-up-to, each-fails}
 use Rattle.record.proofs.bad_status.Statement.{statement}
 use Rattle.record.proofs.bad_status.Tie as tie
 
@@ -23,41 +23,27 @@ abbrev μ-loop : tie.MeasureT-loop
 μ-loop s d₀ d = 8 - d
 
 loop-holds : tie.Need-loop-holds Inv-loop μ-loop
-loop-holds c = (search needs, none (ok (c .before .args .s .now)))
-
-add-status-ok : tie.Need-add-status-ok Inv-loop μ-loop
-add-status-ok c = search needs
-
-shared-slice-read-status-ok : tie.Need-shared-slice-read-status-ok Inv-loop μ-loop
-shared-slice-read-status-ok c = search needs
-
-status-ok-requires : tie.Need-status-ok-requires Inv-loop μ-loop
-status-ok-requires c κs = search needs
+loop-holds c = (search needs, each-none (ok (c .before .args .s .now)))
 
 returns : tie.Need-returns Inv-loop μ-loop
 unfolding badStatus
 returns c =
-    let s = c .before .before .before .before .before .before .args .s .now in
-    sym (ap not (failed (ok s) 8 (c .before .before .before .loop-test .taken)
+    let at = c .before .before .before .before in
+    let s = at .before .before .args .s .now in
+    sym (ap not (each-fails (ok s) 8 _ (c .before .before .before .loop-test .taken)
     (sym (c .before .status-ok .ensures) ∙ not-true _ (c .if1 .taken))))
-
-add-d : tie.Need-add-d Inv-loop μ-loop
-add-d c = search needs
-
-loop-less : tie.Need-loop-less Inv-loop μ-loop
-loop-less c = search needs
 
 loop-again : tie.Need-loop-again Inv-loop μ-loop
 loop-again c =
-    let s = c .before .before .before .before .before .before .args .s .now in (
+    let at = c .before .before .before .before in (
       search needs,
-      more (ok s) (c .before .before .before .before .loop .inv .1)
+      each-one-more (ok (at .before .before .args .s .now)) (at .loop .inv .1)
           (sym (c .before .status-ok .ensures) ∙ not-false _ (c .if1 .left)),
     )
 
 returns-2 : tie.Need-returns-2 Inv-loop μ-loop
 unfolding badStatus
-returns-2 c = sym (ap not (whole (ok (c .before .before .before .args .s .now)) (c .before .loop .inv .1) (omega arith)))
+returns-2 c = sym (ap not (each-up-to (ok (c .before .before .before .args .s .now)) (c .before .loop .inv .1) (omega arith)))
 
 pub bad-status-spec : {M : Type 1} → statement M
 bad-status-spec =
@@ -66,11 +52,11 @@ bad-status-spec =
     Inv-loop
     μ-loop
     loop-holds
-    add-status-ok
-    shared-slice-read-status-ok
-    status-ok-requires
+    (λ c. search needs)
+    (λ c. search needs)
+    (λ c κs. search needs)
     returns
-    add-d
-    loop-less
+    (λ c. search needs)
+    (λ c. search needs)
     loop-again
     returns-2)

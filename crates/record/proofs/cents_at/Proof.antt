@@ -7,11 +7,8 @@ use Rattle.units.specs.Units.{cents}
 use Rattle.record.proofs.cents_at.Statement.{statement}
 use Rattle.record.proofs.cents_at.Tie as tie
 
-int-at-requires : tie.Need-int-at-requires
-int-at-requires c κs = search needs
-
 returns : tie.Need-returns
 returns c = ap cents (handed (c .int-at .ok) (c .int-at .ensures .is))
 
 pub cents-at-spec : {M : Type 1} → statement M
-cents-at-spec = tie.close (tie.spec int-at-requires returns)
+cents-at-spec = tie.close (tie.spec (λ c κs. search needs) returns)

@@ -7,13 +7,10 @@ use Rattle.units.specs.Units.{hundredths}
 use Rattle.record.proofs.hundredths_at.Statement.{statement}
 use Rattle.record.proofs.hundredths_at.Tie as tie
 
-int-at-requires : tie.Need-int-at-requires
-int-at-requires c κs = search needs
-
 returns : tie.Need-returns
 returns c =
     let int = c .int-at in
     record { is = ap hundredths (handed (int .ok) (int .ensures .is)); small = rw (handed (int .ok) refl) (int .ensures .small) }
 
 pub hundredths-at-spec : {M : Type 1} → statement M
-hundredths-at-spec = tie.close (tie.spec int-at-requires returns)
+hundredths-at-spec = tie.close (tie.spec (λ c κs. search needs) returns)

@@ -2,21 +2,9 @@
 -- Assumes nothing.
 use borrow.Author.Needs.{needs}
 use Rattle.signed.proofs.Calc.{fits, same}
-use Rattle.record.proofs.Twos.{back, reads}
+use Rattle.record.proofs.TwosComplement.{back, reads}
 use Rattle.record.proofs.int_at.Statement.{statement}
 use Rattle.record.proofs.int_at.Tie as tie
-
-u32-at-requires : tie.Need-u32-at-requires
-u32-at-requires c κs = search needs
-
-cast-u : tie.Need-cast-u
-cast-u c = search needs
-
-add-result : tie.Need-add-result
-add-result c = search needs
-
-cast-result : tie.Need-cast-result
-cast-result c = search needs
 
 sub-result : tie.Need-sub-result
 sub-result c = fits (back (c .u32-at .result)) tt
@@ -26,4 +14,4 @@ returns c = reads (c .u32-at .ensures) (c .u32-at .ok) (same (back (c .u32-at .r
 
 pub int-at-spec : {M : Type 1} → statement M
 int-at-spec =
-    tie.close (tie.spec u32-at-requires cast-u add-result cast-result sub-result returns)
+    tie.close (tie.spec (λ c κs. search needs) (λ c. search needs) (λ c. search needs) (λ c. search needs) sub-result returns)

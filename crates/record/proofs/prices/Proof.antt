@@ -1,16 +1,14 @@
--- `record::prices` meets its contract: the four prices from byte 16 on.
+-- `record::prices` meets its contract: its test is the definition's.
 -- Assumes nothing.
 use borrow.Author.Needs.{needs}
-use Rattle.rules.specs.Record.{prices}
 use Rattle.record.proofs.prices.Statement.{statement}
 use Rattle.record.proofs.prices.Tie as tie
 
-prices-from-requires : tie.Need-prices-from-requires
-prices-from-requires c κs = search needs
-
 returns : tie.Need-returns
-unfolding prices
-returns c = search needs
+returns c = rw (c .before .if1 .taken) (c .prices-from .ensures)
+
+returns-2 : tie.Need-returns-2
+returns-2 c = rw (c .before .if1 .left) (c .prices-from2 .ensures)
 
 pub prices-spec : {M : Type 1} → statement M
-prices-spec = tie.close (tie.spec prices-from-requires returns)
+prices-spec = tie.close (tie.spec (λ c κs. search needs) (λ c κs. search needs) returns returns-2)

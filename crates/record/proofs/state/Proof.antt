@@ -5,7 +5,7 @@ use Rattle.record.proofs.state.Statement.{statement}
 use Rattle.record.proofs.state.Tie as tie
 
 returns : tie.Need-returns
-returns c = and-mask (c .args .status) 2
+returns c = and-mask (c .args .x) 2
 
 pub state-spec : {M : Type 1} → statement M
 state-spec = tie.close (tie.spec returns)

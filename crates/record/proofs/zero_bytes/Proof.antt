@@ -5,20 +5,11 @@ use borrow.Author.Tests.{eq-eqb, ne-eqb}
 use Rattle.record.proofs.zero_bytes.Statement.{statement}
 use Rattle.record.proofs.zero_bytes.Tie as tie
 
-shared-slice-read-if1 : tie.Need-shared-slice-read-if1
-shared-slice-read-if1 c = search needs
-
 returns : tie.Need-returns
 returns c = rw (ne-eqb _ 0 (c .if1 .taken))
 
-shared-slice-read-if2 : tie.Need-shared-slice-read-if2
-shared-slice-read-if2 c = search needs
-
 returns-2 : tie.Need-returns-2
 returns-2 c = rw (eq-eqb _ 0 (c .before .before .if1 .left), ne-eqb _ 0 (c .if2 .taken))
-
-shared-slice-read-result : tie.Need-shared-slice-read-result
-shared-slice-read-result c = search needs
 
 returns-3 : tie.Need-returns-3
 returns-3 c = rw (eq-eqb _ 0 (c .before .before .before .if1 .left), eq-eqb _ 0 (c .before .if2 .left))
@@ -27,9 +18,9 @@ pub zero-bytes-spec : {M : Type 1} → statement M
 zero-bytes-spec =
     tie.close
     (tie.spec
-    shared-slice-read-if1
+    (λ c. search needs)
     returns
-    shared-slice-read-if2
+    (λ c. search needs)
     returns-2
-    shared-slice-read-result
+    (λ c. search needs)
     returns-3)

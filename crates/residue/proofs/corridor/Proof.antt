@@ -1,8 +1,8 @@
 -- `residue::corridor` meets its contract: after j turns the sums are the definition's over the corridor's first j lines.
 -- Assumes nothing.
-use mathlib.Core.Path.{_≡_, refl, sym, ap, subst}
+use mathlib.Core.Path.{_≡_, refl, ap}
 use mathlib.Core.List.{List, []}
-use Prim.Native.Nat.{ℕ, _+_, _-_, _≤_, _<_}
+use Prim.Native.Nat.{ℕ, _+_, _-_, _≤_}
 use native.Mathlib.Numerals.{add-one}
 use native.Mathlib.Omega.{arith}
 use native.Mathlib.Nat as N
@@ -11,6 +11,7 @@ use lib.Dec.{lit≤}
 use lib.IntN.{ℤ, natAbs}
 use lib.ListN.{getD}
 use Rattle.signed.specs.Range.{negative}
+use Rattle.signed.proofs.Calc.{sum-fits}
 use Rattle.units.specs.declared.Cents.{Cents}
 use Rattle.units.specs.declared.Grains.{Grains}
 use Rattle.units.specs.declared.Hundredths.{Hundredths}
@@ -19,7 +20,8 @@ use Rattle.rules.specs.declared.Corridor.{Corridor}
 use Rattle.rules.specs.declared.CorridorResidue.{CorridorResidue}
 use Rattle.rules.specs.declared.Line.{Line}
 use Rattle.rules.specs.Residue.{grainsOf, rounded, sumFrom, price, line}
-use Rattle.residue.proofs.Lines.{Inside, inside, line-in-range, line-small, sum-small, more-fits}
+use Rattle.residue.specs.Internal.{highestGrains, highestCorridorGrains}
+use Rattle.residue.proofs.LineBounds.{line-in-range, line-small, sum-small}
 use Rattle.residue.proofs.corridor.Statement.{statement}
 use Rattle.residue.proofs.corridor.Tie as tie
 
@@ -39,8 +41,8 @@ module _ (p q : Cents) (shares : List ℕ) (lines : List Line) where
 
 -- the definition, of the corridor that the table gives
 module _ (prices : List Cents) (shares : List ℕ) (lines : List Line) where
-  abbrev residueIn : Corridor → CorridorResidue
-  residueIn r =
+  abbrev corridorResidueOf : Corridor → CorridorResidue
+  corridorResidueOf r =
       let p = price prices shares lines (r .to) in
       let q = price prices shares lines (r .from) in
       record {
@@ -54,89 +56,52 @@ Inv-loop c shares lines to from first count p q sum₀ flow₀ j₀ sum flow j =
 abbrev μ-loop : tie.MeasureT-loop
 μ-loop c shares lines to from first count p q sum₀ flow₀ j₀ sum flow j = count - j
 
-looked-up : (c : tie.After-corridor-at Inv-loop μ-loop) → Inside (c .corridor-at .result)
-looked-up c = subst Inside (sym (c .corridor-at .ensures .is)) (inside (c .before .args .c))
+abbrev start : tie.At-loop Inv-loop μ-loop → tie.Start Inv-loop μ-loop
+start c = c .before .before .before .before
 
 -- what is summed when the loop's test is reached
 module _ (c : tie.At-loop Inv-loop μ-loop) where
   few : c .loop .j ≤ 2
-  few = omega (arith, looked-up (c .before .before .before) .lines)
+  few = omega arith
 
-  grains-so-far : natAbs (c .loop .sum .0) ≤ 1000000000000000000
+  grains-so-far : natAbs (c .loop .sum .0) ≤ highestCorridorGrains
   grains-so-far =
-      let s = c .before .before .before .before in
       let r = c .before .before .before .corridor-at .result in
       rw (c .loop .inv .grains-are)
-      (sum-small (r .first) (c .loop .j) _ few (λ i. line-small (line-in-range (s .pre .1) (r .to) (r .from) i)))
+      (sum-small (r .first) (c .loop .j) _ few (λ i. line-small (line-in-range (start c .pre .1) (r .to) (r .from) i)))
 
-  flow-so-far : natAbs (c .loop .flow .0) ≤ 1000000000000000000
+  flow-so-far : natAbs (c .loop .flow .0) ≤ highestCorridorGrains
   flow-so-far =
-      let s = c .before .before .before .before in
       let r = c .before .before .before .corridor-at .result in
       rw (c .loop .inv .flow-is)
-      (sum-small (r .first) (c .loop .j) _ few (λ i. N.le-trans (s .pre .1 .flow i) (lit≤ tt)))
-
-index : (c : tie.In-loop Inv-loop μ-loop) → c .before .before .before .before .corridor-at .result .first + c .before .loop .j < 6
-index c = omega (arith, looked-up (c .before .before .before .before) .last)
-
-corridor-at-requires : tie.Need-corridor-at-requires Inv-loop μ-loop
-corridor-at-requires c κs = search needs
-
-mul-p : tie.Need-mul-p Inv-loop μ-loop
-mul-p c = let t = looked-up c in omega arith
-
-array-copy-out-p : tie.Need-array-copy-out-p Inv-loop μ-loop
-array-copy-out-p c = let t = looked-up c in omega arith
-
-mul-q : tie.Need-mul-q Inv-loop μ-loop
-mul-q c = let t = looked-up (c .before) in omega arith
-
-array-copy-out-q : tie.Need-array-copy-out-q Inv-loop μ-loop
-array-copy-out-q c = let t = looked-up (c .before) in omega arith
+      (sum-small (r .first) (c .loop .j) _ few (λ i. N.le-trans (start c .pre .1 .flow i) (lit≤ tt)))
 
 loop-holds : tie.Need-loop-holds Inv-loop μ-loop
 loop-holds c = record { within = omega arith; grains-are = refl; flow-is = refl }
 
-add-i : tie.Need-add-i Inv-loop μ-loop
-add-i c = omega (arith, index c)
-
-mul-k : tie.Need-mul-k Inv-loop μ-loop
-mul-k c = omega (arith, index c)
-
-array-read-k : tie.Need-array-read-k Inv-loop μ-loop
-array-read-k c = index c
-
-mul-l : tie.Need-mul-l Inv-loop μ-loop
-mul-l c = omega (arith, index c)
-
-array-copy-out-l : tie.Need-array-copy-out-l Inv-loop μ-loop
-array-copy-out-l c = index c
-
 grains-requires : tie.Need-grains-requires Inv-loop μ-loop
-grains-requires c κs = line-in-range (c .before .before .before .before .before .before .before .pre .1) _ _ _
+grains-requires c κs = line-in-range (start (c .before .before .before) .pre .1) _ _ _
 
 plus-requires : tie.Need-plus-requires Inv-loop μ-loop
 plus-requires c κs =
     let g = c .grains .result .0 in
-    let small : natAbs g ≤ 43200000000000000 = rw (c .grains .ensures) (line-small (grains-requires (c .before) κs)) in
+    let small : natAbs g ≤ highestGrains = rw (c .grains .ensures) (line-small (grains-requires (c .before) κs)) in
     let at = c .before .before .before .before in
-    more-fits (at .loop .sum .0) g (grains-so-far at) small
+    sum-fits (at .loop .sum .0) g (omega (arith, grains-so-far at))
 
 plus-requires-2 : tie.Need-plus-requires-2 Inv-loop μ-loop
 plus-requires-2 c κs =
-    let s = c .before .before .before .before .before .before .before .before .before in
     let at = c .before .before .before .before .before in
-    more-fits (at .loop .flow .0) _ (flow-so-far at) (N.le-trans (s .pre .1 .flow _) (lit≤ tt))
-
-add-j : tie.Need-add-j Inv-loop μ-loop
-add-j c = omega (arith, few (c .before .before .before .before .before .before))
+    let i = at .before .before .before .corridor-at .result .first + at .loop .j in
+    sum-fits (at .loop .flow .0) _ (omega (arith, flow-so-far at, start at .pre .1 .flow i))
 
 loop-less : tie.Need-loop-less Inv-loop μ-loop
 loop-less c = omega arith
 
 loop-again : tie.Need-loop-again Inv-loop μ-loop
 loop-again c =
-    let inv = c .before .before .before .before .before .before .loop .inv in
+    let turn = c .before .before .before in
+    let inv = turn .before .before .before .loop .inv in
     record {
       within = omega arith;
       grains-are = rw (add-one, c .before .plus .ensures, inv .grains-are, c .before .before .grains .ensures);
@@ -146,16 +111,14 @@ loop-again c =
 rounded-requires : tie.Need-rounded-requires Inv-loop μ-loop
 rounded-requires c κs = grains-so-far (c .before)
 
-is-negative-requires : tie.Need-is-negative-requires Inv-loop μ-loop
-is-negative-requires c κs = search needs
-
 returns : tie.Need-returns Inv-loop μ-loop
 returns c =
-    let a = c .before .before .before .before .before .before .before .args in
-    let loop = c .before .before .before .loop in
-    let all : loop .j ≡ c .before .before .before .before .before .before .corridor-at .result .lines = omega arith in
-    rw (c .before .rounded .ensures, c .is-negative .ensures, loop .inv .grains-are, loop .inv .flow-is, all)
-    (ap (residueIn (a .t1) (a .t2) (a .t3)) (c .before .before .before .before .before .before .corridor-at .ensures .is))
+    let at = c .before .before .before in
+    let a = start at .args in
+    let table = at .before .before .before .corridor-at in
+    let all : at .loop .j ≡ table .result .lines = omega arith in
+    rw (c .before .rounded .ensures, c .is-negative .ensures, at .loop .inv .grains-are, at .loop .inv .flow-is, all)
+    (ap (corridorResidueOf (a .t1) (a .t2) (a .t3)) (table .ensures .is))
 
 pub corridor-spec : {M : Type 1} → statement M
 corridor-spec =
@@ -163,23 +126,23 @@ corridor-spec =
     (tie.spec
     Inv-loop
     μ-loop
-    corridor-at-requires
-    mul-p
-    array-copy-out-p
-    mul-q
-    array-copy-out-q
+    (λ c κs. search needs)
+    (λ c. search needs)
+    (λ c. search needs)
+    (λ c. search needs)
+    (λ c. search needs)
     loop-holds
-    add-i
-    mul-k
-    array-read-k
-    mul-l
-    array-copy-out-l
+    (λ c. search needs)
+    (λ c. search needs)
+    (λ c. search needs)
+    (λ c. search needs)
+    (λ c. search needs)
     grains-requires
     plus-requires
     plus-requires-2
-    add-j
+    (λ c. search needs)
     loop-less
     loop-again
     rounded-requires
-    is-negative-requires
+    (λ c κs. search needs)
     returns)

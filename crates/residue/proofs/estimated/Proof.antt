@@ -12,8 +12,5 @@ returns c = rw (c .before .if1 .taken, eq-eqb (c .before .before .args .n % 6) 5
 returns-2 : tie.Need-returns-2
 returns-2 c = rw (c .before .if1 .taken, ne-eqb (c .before .before .args .n % 6) 5 (c .if2 .left))
 
-returns-3 : tie.Need-returns-3
-returns-3 c = search needs
-
 pub estimated-spec : {M : Type 1} → statement M
-estimated-spec = tie.close (tie.spec returns returns-2 returns-3)
+estimated-spec = tie.close (tie.spec returns returns-2 (λ c. search needs))

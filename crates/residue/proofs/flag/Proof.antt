@@ -11,9 +11,6 @@ returns : tie.Need-returns
 unfolding flagOf
 returns c = rw (lt-leb 2 (c .before .args .d) (c .if1 .taken))
 
-is-negative-requires : tie.Need-is-negative-requires
-is-negative-requires c κs = search needs
-
 returns-2 : tie.Need-returns-2
 unfolding flagOf
 returns-2 c =
@@ -25,4 +22,4 @@ unfolding flagOf
 returns-3 c = rw (le-leb 2 (c .before .before .args .d) (c .before .if1 .left), c .if2 .left)
 
 pub flag-spec : {M : Type 1} → statement M
-flag-spec = tie.close (tie.spec returns is-negative-requires returns-2 returns-3)
+flag-spec = tie.close (tie.spec returns (λ c κs. search needs) returns-2 returns-3)

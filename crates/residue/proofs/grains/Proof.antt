@@ -30,8 +30,12 @@ module _ (s : tie.Start) where
   abbrev sold : Calc
   sold = val {z = s .args .q .0} (record { size = s .pre .from-price }) ⊗ sent
 
-cast-share : tie.Need-cast-share
-cast-share c = search needs
+-- the start, from the second and the fourth field read
+abbrev start2 : tie.After-struct-told2 → tie.Start
+start2 c = c .before .before .before .before
+
+abbrev start4 : tie.After-struct-told4 → tie.Start
+start4 c = start2 (c .before .before .before .before)
 
 mul-flow : tie.Need-mul-flow
 mul-flow c = fits (flow (c .before .before)) tt
@@ -40,34 +44,34 @@ sub-received : tie.Need-sub-received
 sub-received c = fits (num (pos 1000) ⊖ K (c .before .before)) tt
 
 mul-received : tie.Need-mul-received
-mul-received c = let s = c .before .before .before .before in fits ((num (pos 1000) ⊖ K s) ⊗ B s) tt
+mul-received c = let s = start2 c in fits ((num (pos 1000) ⊖ K s) ⊗ B s) tt
 
 sub-received-2 : tie.Need-sub-received-2
-sub-received-2 c = fits (received (c .before .before .before .before)) tt
+sub-received-2 c = fits (received (start2 c)) tt
 
 mul-sent : tie.Need-mul-sent
-mul-sent c = let s = c .before .before .before .before .before .before in fits (K s ⊗ B s) tt
+mul-sent c = let s = start2 (c .before .before) in fits (K s ⊗ B s) tt
 
 add-sent : tie.Need-add-sent
-add-sent c = fits (sent (c .before .before .before .before .before .before)) tt
+add-sent c = fits (sent (start2 (c .before .before))) tt
 
 mul-bought : tie.Need-mul-bought
-mul-bought c = fits (bought (c .before .before .before .before .before .before .before .before)) tt
+mul-bought c = fits (bought (start4 c)) tt
 
 mul-sold : tie.Need-mul-sold
-mul-sold c = fits (sold (c .before .before .before .before .before .before .before .before .before .before)) tt
+mul-sold c = fits (sold (start4 (c .before .before))) tt
 
 sub-t12 : tie.Need-sub-t12
-sub-t12 c = let s = c .before .before .before .before .before .before .before .before .before .before in fits (bought s ⊖ sold s) tt
+sub-t12 c = let s = start4 (c .before .before) in fits (bought s ⊖ sold s) tt
 
 returns : tie.Need-returns
-returns c = let s = c .before .before .before .before .before .before .before .before .before .before in ap grains (same (bought s ⊖ sold s) tt)
+returns c = let s = start4 (c .before .before) in ap grains (same (bought s ⊖ sold s) tt)
 
 pub grains-spec : {M : Type 1} → statement M
 grains-spec =
     tie.close
     (tie.spec
-    cast-share
+    (λ c. search needs)
     mul-flow
     sub-received
     mul-received

@@ -8,7 +8,7 @@ use Rattle.units.specs.declared.Cents.{Cents}
 use Rattle.rules.specs.declared.CorridorResidue.{CorridorResidue}
 use Rattle.rules.specs.Market.{corridorOf, reverse}
 use Rattle.rules.specs.Residue.{corridorResidue, residueOf}
-use Rattle.residue.specs.Directions.{assigned}
+use Rattle.residue.specs.Internal.{assigned}
 use Rattle.residue.proofs.residues.Statement.{statement}
 use Rattle.residue.proofs.residues.Tie as tie
 
@@ -21,73 +21,44 @@ module _ (s : tie.Start) where
   unfolding residueOf
   assigned-is d e f = f ∙ ap (assigned (reverse d)) e
 
-corridor-requires : tie.Need-corridor-requires
-corridor-requires c κs = search needs
-
-corridor-requires-2 : tie.Need-corridor-requires-2
-corridor-requires-2 c κs = search needs
-
-corridor-requires-3 : tie.Need-corridor-requires-3
-corridor-requires-3 c κs = search needs
-
-corridor-requires-4 : tie.Need-corridor-requires-4
-corridor-requires-4 c κs = search needs
-
-along-requires : tie.Need-along-requires
-along-requires c κs = search needs
-
-along-requires-2 : tie.Need-along-requires-2
-along-requires-2 c κs = search needs
-
-along-requires-3 : tie.Need-along-requires-3
-along-requires-3 c κs = search needs
-
-along-requires-4 : tie.Need-along-requires-4
-along-requires-4 c κs = search needs
-
-along-requires-5 : tie.Need-along-requires-5
-along-requires-5 c κs = search needs
-
-along-requires-6 : tie.Need-along-requires-6
-along-requires-6 c κs = search needs
-
-along-requires-7 : tie.Need-along-requires-7
-along-requires-7 c κs = search needs
-
-along-requires-8 : tie.Need-along-requires-8
-along-requires-8 c κs = search needs
-
 returns : tie.Need-returns
 returns c =
-    let s = c .before .before .before .before .before .before .before .before .before .before .before .before in
-    let nsw-qld = c .before .before .before .before .before .before .before .before .before .before .before .corridor .ensures in
-    let vic-nsw = c .before .before .before .before .before .before .before .before .before .before .corridor2 .ensures in
-    let vic-sa = c .before .before .before .before .before .before .before .before .before .corridor3 .ensures in
-    let nsw-sa = c .before .before .before .before .before .before .before .before .corridor4 .ensures in
-    λ i. assigned-is s 0 nsw-qld (c .before .before .before .before .before .before .before .along .ensures) i
-    ∷ assigned-is s 1 nsw-qld (c .before .before .before .before .before .before .along2 .ensures) i
-    ∷ assigned-is s 2 vic-nsw (c .before .before .before .before .before .along3 .ensures) i
-    ∷ assigned-is s 3 vic-nsw (c .before .before .before .before .along4 .ensures) i
-    ∷ assigned-is s 4 vic-sa (c .before .before .before .along5 .ensures) i
-    ∷ assigned-is s 5 vic-sa (c .before .before .along6 .ensures) i
-    ∷ assigned-is s 6 nsw-sa (c .before .along7 .ensures) i
-    ∷ assigned-is s 7 nsw-sa (c .along8 .ensures) i
+    let six = c .before in
+    let five = six .before in
+    let four = five .before in
+    let three = four .before in
+    let two = three .before in
+    let one = two .before in
+    let none = one .before in
+    let nsw-sa = none .before in
+    let vic-sa = nsw-sa .before in
+    let vic-nsw = vic-sa .before in
+    let nsw-qld = vic-nsw .before in
+    let s = nsw-qld .before in
+    λ i. assigned-is s 0 (nsw-qld .corridor .ensures) (none .along .ensures) i
+    ∷ assigned-is s 1 (nsw-qld .corridor .ensures) (one .along2 .ensures) i
+    ∷ assigned-is s 2 (vic-nsw .corridor2 .ensures) (two .along3 .ensures) i
+    ∷ assigned-is s 3 (vic-nsw .corridor2 .ensures) (three .along4 .ensures) i
+    ∷ assigned-is s 4 (vic-sa .corridor3 .ensures) (four .along5 .ensures) i
+    ∷ assigned-is s 5 (vic-sa .corridor3 .ensures) (five .along6 .ensures) i
+    ∷ assigned-is s 6 (nsw-sa .corridor4 .ensures) (six .along7 .ensures) i
+    ∷ assigned-is s 7 (nsw-sa .corridor4 .ensures) (c .along8 .ensures) i
     ∷ []
 
 pub residues-spec : {M : Type 1} → statement M
 residues-spec =
     tie.close
     (tie.spec
-    corridor-requires
-    corridor-requires-2
-    corridor-requires-3
-    corridor-requires-4
-    along-requires
-    along-requires-2
-    along-requires-3
-    along-requires-4
-    along-requires-5
-    along-requires-6
-    along-requires-7
-    along-requires-8
+    (λ c κs. search needs)
+    (λ c κs. search needs)
+    (λ c κs. search needs)
+    (λ c κs. search needs)
+    (λ c κs. search needs)
+    (λ c κs. search needs)
+    (λ c κs. search needs)
+    (λ c κs. search needs)
+    (λ c κs. search needs)
+    (λ c κs. search needs)
+    (λ c κs. search needs)
+    (λ c κs. search needs)
     returns)

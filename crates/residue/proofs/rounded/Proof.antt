@@ -9,10 +9,11 @@ use lib.Dec.{lit≤, lit<}
 use lib.IntN.{ℤ, pos, negsuc, natAbs, _+ℤ_}
 use lib.Signed.{ltZ, quotZ}
 use Rattle.signed.specs.Range.{minus, negative}
-use Rattle.signed.proofs.Parts.{below-zero}
+use Rattle.signed.proofs.NatParts.{below-zero}
 use Rattle.signed.proofs.Calc.{Calc, Known, val, _⊕_, _⊘_, fits, same, kept}
 use Rattle.units.specs.Units.{cents, grains}
 use Rattle.rules.specs.Residue.{rounded}
+use Rattle.residue.specs.Internal.{highestCorridorGrains}
 use Rattle.residue.proofs.rounded.Statement.{statement}
 use Rattle.residue.proofs.rounded.Tie as tie
 
@@ -33,7 +34,7 @@ away g = rw (below-zero g) (by-sign g)
         ap (λ (n : ℕ). minus (n / 2400000)) e
 
 module _ (c : tie.After-half-cent) where
-  size : Known (c .before .before .before .args .g .0) 1000000000000000000
+  size : Known (c .before .before .before .args .g .0) highestCorridorGrains
   size = record { size = c .before .before .before .pre }
 
   half-is : c .half-cent .result ≡ half (ltZ (c .before .before .before .args .g .0) (pos 0))
@@ -44,9 +45,6 @@ module _ (c : tie.After-half-cent) where
 
   abbrev shifted : Calc
   shifted = val size ⊕ val {z = c .half-cent .result} half-known
-
-half-cent-requires : tie.Need-half-cent-requires
-half-cent-requires c κs = search needs
 
 add-shifted : tie.Need-add-shifted
 add-shifted c = fits (shifted (c .before .before)) tt
@@ -61,4 +59,4 @@ returns c =
     ap cents (same (shifted (c .before .before) ⊘ 2400000) tt ∙ d ∙ away g)
 
 pub rounded-spec : {M : Type 1} → statement M
-rounded-spec = tie.close (tie.spec half-cent-requires add-shifted div-t5 returns)
+rounded-spec = tie.close (tie.spec (λ c κs. search needs) add-shifted div-t5 returns)

@@ -1,50 +1,34 @@
--- `text::number` meets its contract: the first digits, then the last eight.
+-- `text::number` meets its contract: the byte that ends the digits, then the digits before it.
 -- Assumes nothing.
-use native.Mathlib.Omega.{arith}
+use mathlib.Core.List.{[], _∷_, _++_}
 use borrow.Author.Needs.{needs}
-use Rattle.text.proofs.Digits.{dec-length}
-use Rattle.text.proofs.Parts.{number-parts}
+use Rattle.words.proofs.Parts.{LeftBefore, begin-before, room-before, next-before, finish-before}
+use Rattle.text.specs.Text.{decOf, numberCell}
 use Rattle.text.proofs.number.Statement.{statement}
 use Rattle.text.proofs.number.Tie as tie
 
-up-to-eight-requires : tie.Need-up-to-eight-requires
-up-to-eight-requires c κs = search needs
+left : (s : tie.Start)
+    → let a = s .args in
+    LeftBefore (numberCell (a .n) (a .ender)) (decOf (a .n) ++ (a .ender ∷ [])) (a .out .now) (a .end) (a .out .now) (a .end)
+unfolding numberCell
+left s = begin-before (s .pre)
 
-same-length : tie.Need-same-length
-same-length c = search needs
+-- after the byte that ends them the digits are left
+digits-left : (k : tie.After-put-byte-before)
+    → let a = k .before .before .before .args in
+    LeftBefore (numberCell (a .n) (a .ender)) (decOf (a .n)) (a .out .now) (a .end) (k .put-byte-before .last .1 .0) (k .put-byte-before .result)
+digits-left k = let s = k .before .before .before in next-before (decOf (s .args .n)) (s .args .ender ∷ []) (left s) (k .put-byte-before .ensures)
+
+put-byte-before-requires : tie.Need-put-byte-before-requires
+put-byte-before-requires c κs = let s = c .before .before in room-before (decOf (s .args .n)) (s .args .ender ∷ []) (left s)
+
+digits-requires : tie.Need-digits-requires
+digits-requires c κs = room-before [] _ (digits-left (c .before .before .before))
 
 returns : tie.Need-returns
-returns c = search needs
-
-up-to-twelve-requires : tie.Need-up-to-twelve-requires
-up-to-twelve-requires c κs =
-    let a = c .before .before .before .args in
-    (omega arith, omega (arith, dec-length 8 (a .n) (c .before .if1 .left) (omega arith)))
-
-eight-requires : tie.Need-eight-requires
-eight-requires c κs =
-    let a = c .before .before .before .before .before .before .before .args in
-    let l = dec-length 8 (a .n) (c .before .before .before .before .before .if1 .left) (omega arith) in
-    (omega arith, omega (arith, c .before .before .before .up-to-twelve .kept))
-
-same-length-2 : tie.Need-same-length-2
-same-length-2 c = search needs
-
-returns-2 : tie.Need-returns-2
-returns-2 c =
-    let a = c .before .before .before .before .before .before .before .before .before .before .args in
-    let k1 = c .before .before .before .before .before .before .up-to-twelve in
-    let k2 = c .before .before .eight in
-    number-parts 8 (a .n) (a .out .now) (c .before .before .before .before .before .before .before .before .if1 .left) (omega arith) (omega arith) (k1 .ensures .0) (k1 .ensures .1) (k2 .ensures .0) (k2 .ensures .1)
+returns c =
+    let k = c .before .before in
+    finish-before (next-before [] _ (digits-left (k .before .before .before .before)) (k .digits .ensures))
 
 pub number-spec : {M : Type 1} → statement M
-number-spec =
-    tie.close
-    (tie.spec
-    up-to-eight-requires
-    same-length
-    returns
-    up-to-twelve-requires
-    eight-requires
-    same-length-2
-    returns-2)
+number-spec = tie.close (tie.spec put-byte-before-requires digits-requires (search needs) returns)

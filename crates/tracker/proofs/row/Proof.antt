@@ -8,19 +8,13 @@ use borrow.Author.Needs.{needs}
 use Rattle.tracker.proofs.row.Statement.{statement}
 use Rattle.tracker.proofs.row.Tie as tie
 
-no-row-requires : tie.Need-no-row-requires
-no-row-requires c κs = search needs
-
 returns : tie.Need-returns
 unfolding rowAnswer rowOutcome rowConditions
 returns c = let s = c .before .before in row-promise (s .args .tracker) (s .pre) (s .args .direction) (rw (lt-ltb _ _ (c .before .if1 .taken), c .no-row .ensures))
-
-row-of-requires : tie.Need-row-of-requires
-row-of-requires c κs = search needs
 
 returns-2 : tie.Need-returns-2
 unfolding rowAnswer rowOutcome rowConditions
 returns-2 c = let s = c .before .before in row-promise (s .args .tracker) (s .pre) (s .args .direction) (rw (le-ltb _ _ (c .before .if1 .left), c .row-of .ensures))
 
 pub row-spec : {M : Type 1} → statement M
-row-spec = tie.close (tie.spec no-row-requires returns row-of-requires returns-2)
+row-spec = tie.close (tie.spec (λ c κs. search needs) returns (λ c κs. search needs) returns-2)

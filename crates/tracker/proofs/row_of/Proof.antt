@@ -2,19 +2,10 @@
 -- Assumes nothing.
 use native.Mathlib.Omega.{arith}
 use Rattle.rules.specs.Tracker.{rowOf}
-use Rattle.rules.proofs.Limits.{bounds}
+use Rattle.rules.proofs.StateBounds.{bounds}
 use borrow.Author.Needs.{needs}
 use Rattle.tracker.proofs.row_of.Statement.{statement}
 use Rattle.tracker.proofs.row_of.Tie as tie
-
-mul-s : tie.Need-mul-s
-mul-s c = search needs
-
-element-copy-out-s : tie.Need-element-copy-out-s
-element-copy-out-s c = search needs
-
-is-swamped-requires : tie.Need-is-swamped-requires
-is-swamped-requires c κs = search needs
 
 amount-requires : tie.Need-amount-requires
 amount-requires c κs = let s = c .before .before .before .before .before .before .before .before .before .before in let b = bounds (s .args .t1) (s .pre .0) .each (s .args .d) (s .pre .1) in record { amount = omega (arith, b .amount) }
@@ -25,4 +16,4 @@ returns c = rw (c .before .is-swamped .ensures, c .amount .ensures)
 
 pub row-of-spec : {M : Type 1} → statement M
 row-of-spec =
-    tie.close (tie.spec mul-s element-copy-out-s is-swamped-requires amount-requires returns)
+    tie.close (tie.spec (λ c. search needs) (λ c. search needs) (λ c κs. search needs) amount-requires returns)

@@ -8,7 +8,7 @@ use native.Mathlib.Omega.{arith}
 use borrow.Author.Needs.{needs}
 use borrow.Author.Tests.{le-leb, lt-leb}
 use Rattle.rules.specs.Refusal.{each, shareOk}
-use Rattle.rules.proofs.Scan.{each-by, each-next, each-fails}
+use Rattle.rules.proofs.EachBelow.{each-by, each-next, each-fails}
 use Rattle.tracker.proofs.shares_ok.Statement.{statement}
 use Rattle.tracker.proofs.shares_ok.Tie as tie
 
@@ -21,20 +21,8 @@ abbrev μ-loop : tie.MeasureT-loop
 loop-holds : tie.Need-loop-holds Inv-loop μ-loop
 loop-holds c = (search needs, each-by (shareOk (c .args .t1)) 0 (λ i l. absurd (omega arith)))
 
-mul-if1 : tie.Need-mul-if1 Inv-loop μ-loop
-mul-if1 c = search needs
-
-array-read-if1 : tie.Need-array-read-if1 Inv-loop μ-loop
-array-read-if1 c = search needs
-
 returns : tie.Need-returns Inv-loop μ-loop
 returns c = sym (each-fails (shareOk (c .before .before .before .args .t1)) 6 (c .before .before .loop .i) (c .before .loop-test .taken) (lt-leb _ _ (c .if1 .taken)))
-
-add-i : tie.Need-add-i Inv-loop μ-loop
-add-i c = search needs
-
-loop-less : tie.Need-loop-less Inv-loop μ-loop
-loop-less c = search needs
 
 loop-again : tie.Need-loop-again Inv-loop μ-loop
 loop-again c = (search needs, rw (add-one (c .before .before .loop .i)) (each-next (shareOk (c .before .before .before .args .t1)) (c .before .before .loop .i) (c .before .before .loop .inv .1) (le-leb _ _ (c .if1 .left))))
@@ -51,10 +39,10 @@ shares-ok-spec =
     Inv-loop
     μ-loop
     loop-holds
-    mul-if1
-    array-read-if1
+    (λ c. search needs)
+    (λ c. search needs)
     returns
-    add-i
-    loop-less
+    (λ c. search needs)
+    (λ c. search needs)
     loop-again
     returns-2)

@@ -4,7 +4,7 @@ use mathlib.Core.Path.{_≡_}
 use borrow.Author.Needs.{needs}
 use mir.Syntax.{w64}
 use mir.Val.{toZ, ofZ}
-use Rattle.signed.proofs.Parts.{below-zero}
+use Rattle.signed.proofs.NatParts.{below-zero}
 use Rattle.text.proofs.Plain.is_negative.Statement.{statement}
 use Rattle.text.proofs.Plain.is_negative.Tie as tie
 

@@ -20,8 +20,8 @@ abbrev known : (z : ℤ) → natAbs z ≤ highestPrinted → Calc
 known z h = val {z = z} (record { size = h })
 
 -- the code's `-z`
-abbrev turned : (z : ℤ) → natAbs z ≤ highestPrinted → Calc
-turned z h = num (pos 0) ⊖ known z h
+abbrev negated : (z : ℤ) → natAbs z ≤ highestPrinted → Calc
+negated z h = num (pos 0) ⊖ known z h
 
 not-below : (z : ℤ) → negative z ≡ true → T (nonNeg (pos 0 -ℤ z))
 not-below (pos n) e = absurd (false≢true e)
@@ -36,29 +36,26 @@ neg-abs (pos zero) = refl
 neg-abs (pos (suc n)) = refl
 neg-abs (negsuc n) = refl
 
-turned-abs : (z : ℤ) → natAbs (pos 0 -ℤ z) ≡ natAbs z
-turned-abs z = ap natAbs (+ℤ-idl (negℤ z)) ∙ neg-abs z
+negated-abs : (z : ℤ) → natAbs (pos 0 -ℤ z) ≡ natAbs z
+negated-abs z = ap natAbs (+ℤ-idl (negℤ z)) ∙ neg-abs z
 
 -- what a cast to u64 asks of the machine's number, from what is known of the meant one
 casts : (e : Calc) → T (ok e) → T (nonNeg (meant e)) → natAbs (meant e) ≤ highestPrinted
     → T (nonNeg (back e)) × Fits w64 (natAbs (back e))
 casts e t s h = subst (λ (x : ℤ). T (nonNeg x) × Fits w64 (natAbs x)) (sym (same e t)) (s, record { fits = omega arith })
 
-is-negative-requires : tie.Need-is-negative-requires
-is-negative-requires c κs = search needs
-
 sub-result : tie.Need-sub-result
-sub-result c = let s = c .before .before .before .before in fits (turned (s .args .self .0) (s .pre)) tt
+sub-result c = let s = c .before .before .before .before in fits (negated (s .args .self .0) (s .pre)) tt
 
 cast-result : tie.Need-cast-result
 cast-result c =
     let s = c .before .before .before .before in
     let z = s .args .self .0 in
     let sign = not-below z (sym (c .before .before .before .is-negative .ensures) ∙ c .before .before .if1 .taken) in
-    casts (turned z (s .pre)) tt sign (rw (turned-abs z) (s .pre))
+    casts (negated z (s .pre)) tt sign (rw (negated-abs z) (s .pre))
 
 returns : tie.Need-returns
-returns c = let s = c .before .before .before .before in ap natAbs (same (turned (s .args .self .0) (s .pre)) tt) ∙ turned-abs (s .args .self .0)
+returns c = let s = c .before .before .before .before in ap natAbs (same (negated (s .args .self .0) (s .pre)) tt) ∙ negated-abs (s .args .self .0)
 
 cast-result-2 : tie.Need-cast-result-2
 cast-result-2 c =
@@ -66,10 +63,7 @@ cast-result-2 c =
     let z = s .args .self .0 in
     casts (known z (s .pre)) tt (whole z (sym (c .before .before .before .is-negative .ensures) ∙ c .before .before .if1 .left)) (s .pre)
 
-returns-2 : tie.Need-returns-2
-returns-2 c = search needs
-
 pub magnitude-spec : {M : Type 1} → statement M
 magnitude-spec =
     tie.close
-    (tie.spec is-negative-requires sub-result cast-result returns cast-result-2 returns-2)
+    (tie.spec (λ c κs. search needs) sub-result cast-result returns cast-result-2 (λ c. search needs))

@@ -3,7 +3,7 @@
 use borrow.Author.Needs.{sfits-of}
 use lib.IntN.{pos}
 use mir.Syntax.{w64}
-use Rattle.signed.proofs.Equal.{eqb-bits}
+use Rattle.signed.proofs.EqualBits.{eqb-bits}
 use Rattle.signed.proofs.Calc.{sfits-abs}
 use native.Mathlib.Omega.{arith}
 use Rattle.units.proofs.Cents.is_zero.Statement.{statement}

@@ -5,14 +5,8 @@ use borrow.Author.Needs.{needs}
 use Rattle.units.proofs.Cents.lower_of_zero.Statement.{statement}
 use Rattle.units.proofs.Cents.lower_of_zero.Tie as tie
 
-is-negative-requires : tie.Need-is-negative-requires
-is-negative-requires c κs = search needs
-
-returns : tie.Need-returns
-returns c = search needs
-
 returns-2 : tie.Need-returns-2
 returns-2 c = rw (sym (c .before .is-negative .ensures) ∙ c .if1 .left)
 
 pub lower-of-zero-spec : {M : Type 1} → statement M
-lower-of-zero-spec = tie.close (tie.spec is-negative-requires returns returns-2)
+lower-of-zero-spec = tie.close (tie.spec (λ c κs. search needs) (λ c. search needs) returns-2)

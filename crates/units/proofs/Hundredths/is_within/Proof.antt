@@ -5,12 +5,6 @@ use borrow.Author.Needs.{needs}
 use Rattle.units.proofs.Hundredths.is_within.Statement.{statement}
 use Rattle.units.proofs.Hundredths.is_within.Tie as tie
 
-at-most-requires : tie.Need-at-most-requires
-at-most-requires c κs = search needs
-
-at-most-requires-2 : tie.Need-at-most-requires-2
-at-most-requires-2 c κs = search needs
-
 returns : tie.Need-returns
 returns c = rw (sym (c .before .before .at-most .ensures) ∙ c .before .if1 .taken) (c .at-most2 .ensures)
 
@@ -18,4 +12,4 @@ returns-2 : tie.Need-returns-2
 returns-2 c = rw (sym (c .before .at-most .ensures) ∙ c .if1 .left)
 
 pub is-within-spec : {M : Type 1} → statement M
-is-within-spec = tie.close (tie.spec at-most-requires at-most-requires-2 returns returns-2)
+is-within-spec = tie.close (tie.spec (λ c κs. search needs) (λ c κs. search needs) returns returns-2)

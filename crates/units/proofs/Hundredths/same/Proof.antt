@@ -1,7 +1,7 @@
 -- `Hundredths::same` meets its contract: `==` compares bits.
 -- Assumes nothing.
 use borrow.Author.Needs.{sfits-of}
-use Rattle.signed.proofs.Equal.{eqb-bits}
+use Rattle.signed.proofs.EqualBits.{eqb-bits}
 use Rattle.units.proofs.Hundredths.same.Statement.{statement}
 use Rattle.units.proofs.Hundredths.same.Tie as tie
 

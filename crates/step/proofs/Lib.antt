@@ -1,3 +1,0 @@
--- What the proofs of the crate share.
-mod Table
-mod Sums

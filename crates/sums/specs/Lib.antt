@@ -1,0 +1,2 @@
+-- What the code of this crate needs beyond the rules.
+pub mod Internal

@@ -1,0 +1,42 @@
+-- What the functions below the calls are asked and give.
+use mathlib.Core.Bool.{false}
+use mathlib.Core.List.{List}
+use Prim.Native.Nat.{ℕ, _<_}
+use lib.IntN.{pos}
+use lib.ListN.{getD, replicate}
+use Rattle.units.specs.Units.{cents, hundredths}
+use Rattle.rules.specs.declared.Direction.{Direction}
+use Rattle.rules.specs.declared.Event.{Event}
+use Rattle.rules.specs.declared.Answer.{Answer}
+use Rattle.rules.specs.declared.Outcome.the-variants.{Refused}
+use Rattle.rules.specs.Interval.{settings, fresh, stepOf}
+use Rattle.rules.specs.Market.{ofDirections}
+use Rattle.rules.specs.Tracker.{tracker, blank}
+use Rattle.step.specs.Internal.{Steppable}
+
+-- stands where a list of events ends
+abbrev pub noEvent : Event
+noEvent = record {
+  n = 0;
+  flag = false;
+  residue = cents (pos 0);
+  next = cents (pos 0);
+  review = false;
+  status = 0;
+  blocked = false;
+  target = hundredths (pos 0);
+}
+
+abbrev pub refusedOpening : ℕ → Answer
+refusedOpening k = record { outcome = Refused k; tracker = tracker (replicate 6 0) 0 0 (replicate 8 fresh) }
+
+-- each direction's state, and its event, allow a step
+pub record AllSteppable (events : List Event) (ss : List Direction) : Type 0 where
+  pub each : (d : ℕ) → d < 8 → Steppable d (getD events d noEvent) (getD ss d blank)
+
+-- a direction's state after its event, and those of all eight
+abbrev pub stepped : List Event → List Direction → ℕ → Direction
+stepped events ss d = stepOf settings d (getD events d noEvent) (getD ss d blank)
+
+abbrev pub allStepped : List Event → List Direction → List Direction
+allStepped events ss = ofDirections (stepped events ss)
