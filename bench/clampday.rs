@@ -6,16 +6,19 @@
 //!
 //! Money is in cents, flow in hundredths of a MW; both are plain i64 here.
 
+use std::array::from_fn;
 use std::io::{self, ErrorKind, Read, Write};
-use std::ops::RangeInclusive;
+use std::ops::{Range, RangeInclusive};
 
 const RECORD: usize = 168;
 const TRAILER: usize = 16;
 const MOST_BYTES: usize = 65_536;
 const MOST_RECORDS: usize = 288;
 const MOST_PREFACE: usize = 1_024;
-/// Room for eight rows of a hundred bytes for each record.
-const MOST_LISTING: usize = MOST_RECORDS * 8 * 100;
+/// Digits of a number at most.
+const MOST_DIGITS: usize = 20;
+/// Room for a header and eight lines of a hundred bytes for each record.
+const MOST_LISTING: usize = HEADER.len() + MOST_RECORDS * 8 * 100;
 const LAST_INTERVAL: u32 = 1_051_199;
 
 const PRICE: RangeInclusive<i32> = -100_000..=3_000_000;
@@ -24,7 +27,7 @@ const LOSS: RangeInclusive<i32> = -100_000..=100_000;
 
 const REVIEW: u8 = 1;
 const LOOP: u8 = 2;
-const AHEAD: u8 = 4;
+const PRE_DISPATCH: u8 = 4;
 const UNBOUND: u8 = 0;
 const VIOLATED: u8 = 2;
 const BLOCKED: u8 = 4;
@@ -37,9 +40,23 @@ const CLAMP: RangeInclusive<i64> = 2_000..=1_000_000;
 
 const HEADER: &str = "interval,direction,applies,amount,previous,current,next,clamp\n";
 const NAMES: [&str; 8] = [
-    "NSW1_QLD1", "QLD1_NSW1", "VIC1_NSW1", "NSW1_VIC1",
-    "VIC1_SA1", "SA1_VIC1", "NSW1_SA1", "SA1_NSW1",
+    "NSW1_QLD1",
+    "QLD1_NSW1",
+    "VIC1_NSW1",
+    "NSW1_VIC1",
+    "VIC1_SA1",
+    "SA1_VIC1",
+    "NSW1_SA1",
+    "SA1_NSW1",
 ];
+
+/// The numbers below a hundred, two digits each.
+const PAIRS: &[u8; 200] = b"\
+    0001020304050607080910111213141516171819\
+    2021222324252627282930313233343536373839\
+    4041424344454647484950515253545556575859\
+    6061626364656667686970717273747576777879\
+    8081828384858687888990919293949596979899";
 
 /// Clamp steps by direction and band of net.
 const STEPS: [[i64; 4]; 8] = [
@@ -57,14 +74,18 @@ const STEPS: [[i64; 4]; 8] = [
 struct Corridor {
     from: usize,
     to: usize,
-    lines: std::ops::Range<usize>,
+    lines: Range<usize>,
+}
+
+const fn corridor(from: usize, to: usize, lines: Range<usize>) -> Corridor {
+    Corridor { from, to, lines }
 }
 
 const CORRIDORS: [Corridor; 4] = [
-    Corridor { from: 0, to: 1, lines: 0..2 },
-    Corridor { from: 3, to: 0, lines: 2..3 },
-    Corridor { from: 3, to: 2, lines: 3..5 },
-    Corridor { from: 0, to: 2, lines: 5..6 },
+    corridor(0, 1, 0..2),
+    corridor(3, 0, 2..3),
+    corridor(3, 2, 3..5),
+    corridor(0, 2, 5..6),
 ];
 
 /// The number of a refusal, as the scope lists them.
@@ -100,7 +121,10 @@ fn read_journal(journal: &[u8]) -> Result<&[u8], Refusal> {
         return Err(13);
     }
     let numbers = || records.chunks_exact(RECORD).map(|record| u32_at(record, 0));
-    if numbers().zip(numbers().skip(1)).any(|(n, after)| n.checked_add(1) != Some(after)) {
+    if numbers()
+        .zip(numbers().skip(1))
+        .any(|(n, after)| n.checked_add(1) != Some(after))
+    {
         return Err(14);
     }
     Ok(records)
@@ -108,88 +132,112 @@ fn read_journal(journal: &[u8]) -> Result<&[u8], Refusal> {
 
 // ----------------------------------------------------------------- record
 
-/// A physical line in an interval or a pre-dispatch half-hour, where its one
-/// flow stands as the target too and nobody asks for it.
-struct Line {
+/// What a physical line brings to its corridor. A pre-dispatch half-hour has
+/// one flow; it stands as the target too, which is not used there.
+struct Flow {
     a: i64,
     b: i64,
     target: i64,
 }
 
-/// One record as it stands, its 38 numbers still in file order: 4 prices,
-/// 6 x (metered, target, losses), 4 pre-dispatch prices, 6 x (flow, losses).
-struct Record {
-    n: u32,
-    flags: u8,
-    statuses: [u8; 8],
-    values: [i32; 38],
-}
+/// One record, read where it stands in the journal.
+#[derive(Clone, Copy)]
+struct Record<'a>(&'a [u8; RECORD]);
 
-impl Record {
-    /// Refusals 2 to 8; the length is right by the way the journal is cut.
-    fn read(bytes: &[u8; RECORD], awaited: u32) -> Result<Record, Refusal> {
-        let mut values = [0; 38];
-        for (value, bytes) in values.iter_mut().zip(bytes[16..].chunks_exact(4)) {
-            *value = i32::from_le_bytes(bytes.try_into().unwrap());
+impl Record<'_> {
+    fn n(self) -> u32 {
+        u32_at(self.0, 0)
+    }
+
+    fn has(self, flag: u8) -> bool {
+        self.0[4] & flag != 0
+    }
+
+    fn status(self, direction: usize) -> u8 {
+        self.0[5 + direction]
+    }
+
+    /// One of the 38 numbers: 4 prices, 6 x (metered, target, losses),
+    /// 4 pre-dispatch prices, 6 x (flow, losses).
+    fn number(self, place: usize) -> i32 {
+        u32_at(self.0, 16 + 4 * place) as i32
+    }
+
+    fn price(self, region: usize) -> i64 {
+        self.number(region).into()
+    }
+
+    fn flow(self, line: usize) -> Flow {
+        let [metered, target, losses] = [4, 5, 6].map(|k| i64::from(self.number(k + 3 * line)));
+        Flow {
+            a: metered + target,
+            b: 2 * losses,
+            target,
         }
-        let record = Record {
-            n: u32_at(bytes, 0),
-            flags: bytes[4],
-            statuses: bytes[5..13].try_into().unwrap(),
-            values,
-        };
-        let ahead = record.flags & AHEAD != 0;
-        if record.n > LAST_INTERVAL {
+    }
+
+    fn pre_dispatch_price(self, region: usize) -> i64 {
+        self.number(22 + region).into()
+    }
+
+    fn pre_dispatch_flow(self, line: usize) -> Flow {
+        let [flow, losses] = [26, 27].map(|k| i64::from(self.number(k + 2 * line)));
+        Flow {
+            a: 12 * flow,
+            b: 12 * losses,
+            target: flow,
+        }
+    }
+
+    /// Refusals 2 to 8; the length is right by the way the journal is cut.
+    fn check(self, awaited: u32) -> Result<(), Refusal> {
+        if self.n() > LAST_INTERVAL {
             Err(2)
-        } else if record.n != awaited {
+        } else if self.n() != awaited {
             Err(3)
-        } else if record.flags > 7 || ahead && record.n % 6 != 5 || bytes[13..16] != [0; 3] {
+        } else if !self.flags_fit() {
             Err(4)
-        } else if record.statuses.iter().any(|&status| status > 6 || status == 3) {
+        } else if (0..8).any(|direction| !matches!(self.status(direction), 0..=2 | 4..=6)) {
             Err(5)
-        } else if !record.prices().iter().all(|price| PRICE.contains(price)) {
+        } else if !self.fit(0..4, &PRICE) {
             Err(6)
-        } else if !record.flows_fit() {
+        } else if !(0..6).all(|line| self.line_fits(line)) {
             Err(7)
-        } else if !record.ahead_fits(ahead) {
+        } else if !self.pre_dispatch_fits() {
             Err(8)
         } else {
-            Ok(record)
+            Ok(())
         }
     }
 
-    fn prices(&self) -> &[i32] {
-        &self.values[..4]
+    fn fit(self, mut places: Range<usize>, range: &RangeInclusive<i32>) -> bool {
+        places.all(|place| range.contains(&self.number(place)))
     }
 
-    fn ahead_prices(&self) -> &[i32] {
-        &self.values[22..26]
+    /// No unknown flag, pre-dispatch in a half-hour's last interval only, and
+    /// the three bytes after the statuses zero.
+    fn flags_fit(self) -> bool {
+        self.0[4] <= REVIEW | LOOP | PRE_DISPATCH
+            && (self.n() % 6 == 5 || !self.has(PRE_DISPATCH))
+            && self.0[13..16] == [0; 3]
     }
 
-    fn flows_fit(&self) -> bool {
-        self.values[4..22].chunks_exact(3).all(|line| {
-            FLOW.contains(&line[0]) && FLOW.contains(&line[1]) && LOSS.contains(&line[2])
-        })
+    fn line_fits(self, line: usize) -> bool {
+        let first = 4 + 3 * line;
+        self.fit(first..first + 2, &FLOW) && self.fit(first + 2..first + 3, &LOSS)
     }
 
-    fn ahead_fits(&self, present: bool) -> bool {
-        if !present {
-            return self.values[22..].iter().all(|&value| value == 0);
+    fn pre_dispatch_line_fits(self, line: usize) -> bool {
+        let first = 26 + 2 * line;
+        self.fit(first..first + 1, &FLOW) && self.fit(first + 1..first + 2, &LOSS)
+    }
+
+    fn pre_dispatch_fits(self) -> bool {
+        if self.has(PRE_DISPATCH) {
+            self.fit(22..26, &PRICE) && (0..6).all(|line| self.pre_dispatch_line_fits(line))
+        } else {
+            self.fit(22..38, &(0..=0))
         }
-        self.ahead_prices().iter().all(|price| PRICE.contains(price))
-            && self.values[26..]
-                .chunks_exact(2)
-                .all(|line| FLOW.contains(&line[0]) && LOSS.contains(&line[1]))
-    }
-
-    fn line(&self, line: usize) -> Line {
-        let [metered, target, losses] = [0, 1, 2].map(|k| i64::from(self.values[4 + 3 * line + k]));
-        Line { a: metered + target, b: 2 * losses, target }
-    }
-
-    fn ahead_line(&self, line: usize) -> Line {
-        let [flow, losses] = [0, 1].map(|k| i64::from(self.values[26 + 2 * line + k]));
-        Line { a: 12 * flow, b: 12 * losses, target: flow }
     }
 }
 
@@ -205,21 +253,43 @@ struct Residue {
 }
 
 impl Residue {
-    fn of(corridor: &Corridor, shares: &[i64; 6], prices: &[i32], line: impl Fn(usize) -> Line) -> Residue {
-        let (from, to) = (i64::from(prices[corridor.from]), i64::from(prices[corridor.to]));
-        let (mut grains, mut flow, mut target) = (0, 0, 0);
-        for number in corridor.lines.clone() {
-            let (line, k) = (line(number), shares[number]);
-            grains += to * (1000 * line.a - (1000 - k) * line.b) - from * (1000 * line.a + k * line.b);
-            flow += line.a;
-            target += line.target;
+    /// Of the four corridors.
+    fn all(
+        shares: &[i64; 6],
+        price: impl Fn(usize) -> i64,
+        flow: impl Fn(usize) -> Flow,
+    ) -> [Residue; 4] {
+        from_fn(|number| Residue::of(&CORRIDORS[number], shares, &price, &flow))
+    }
+
+    fn of(
+        corridor: &Corridor,
+        shares: &[i64; 6],
+        price: impl Fn(usize) -> i64,
+        flow: impl Fn(usize) -> Flow,
+    ) -> Residue {
+        let (from, to) = (price(corridor.from), price(corridor.to));
+        let (mut grains, mut sum, mut target) = (0, 0, 0);
+        for line in corridor.lines.clone() {
+            let (Flow { a, b, target: t }, k) = (flow(line), shares[line]);
+            grains += to * (1000 * a - (1000 - k) * b) - from * (1000 * a + k * b);
+            sum += a;
+            target += t;
         }
-        Residue { to_from: flow < 0, cents: nearest_cent(grains), target }
+        Residue {
+            to_from: sum < 0,
+            cents: nearest_cent(grains),
+            target,
+        }
     }
 
     /// The residue of one of the corridor's two directions.
     fn in_direction(&self, to_from: bool) -> i64 {
-        if self.to_from == to_from { self.cents } else { 0 }
+        if self.to_from == to_from {
+            self.cents
+        } else {
+            0
+        }
     }
 }
 
@@ -294,7 +364,11 @@ impl Direction {
         self.clamp = if swamped {
             SWAMPED
         } else {
-            let base = if self.applies() { self.clamp } else { input.target };
+            let base = if self.applies() {
+                self.clamp
+            } else {
+                input.target
+            };
             (base + steps[band(self.net)]).clamp(*CLAMP.start(), *CLAMP.end())
         };
     }
@@ -321,7 +395,10 @@ impl Direction {
         let half_hour_end = input.n - input.n % 6 + 5;
         let Some(period) = &mut self.period else {
             if reached {
-                self.period = Some(Period { last: half_hour_end + 6, extended: false });
+                self.period = Some(Period {
+                    last: half_hour_end + 6,
+                    extended: false,
+                });
             }
             return;
         };
@@ -341,7 +418,13 @@ impl Direction {
     /// Rule 5: unbound and violated intervals in a row.
     fn count(&mut self, held: bool, status: u8) {
         let counts = held && self.period.is_some() && self.applies() && self.current == 0;
-        let after = |count: u8, wanted| if counts && status == wanted { (count + 1).min(3) } else { 0 };
+        let after = |count: u8, wanted| {
+            if counts && status == wanted {
+                (count + 1).min(3)
+            } else {
+                0
+            }
+        };
         self.unbound = after(self.unbound, UNBOUND);
         self.violated = after(self.violated, VIOLATED);
     }
@@ -371,36 +454,44 @@ impl Tracker {
         if shares.iter().any(|&share| share > 1000) {
             return Err(10);
         }
-        Ok(Tracker { awaited: first, shares, directions: [Direction::FRESH; 8] })
+        Ok(Tracker {
+            awaited: first,
+            shares,
+            directions: [Direction::FRESH; 8],
+        })
     }
 
     /// Takes one record and appends the rows that the listing shows.
-    fn interval(&mut self, bytes: &[u8; RECORD], listing: &mut Vec<u8>) -> Result<(), Refusal> {
-        let record = Record::read(bytes, self.awaited)?;
+    fn interval(&mut self, record: Record, listing: &mut Vec<u8>) -> Result<(), Refusal> {
+        record.check(self.awaited)?;
         self.awaited += 1;
-        let residues = CORRIDORS
-            .each_ref()
-            .map(|corridor| Residue::of(corridor, &self.shares, record.prices(), |line| record.line(line)));
-        let mut ahead = [Residue::default(); 4];
-        if record.flags & AHEAD != 0 {
-            ahead = CORRIDORS.each_ref().map(|corridor| {
-                Residue::of(corridor, &self.shares, record.ahead_prices(), |line| record.ahead_line(line))
-            });
-        }
+        let shares = &self.shares;
+        let residues = Residue::all(
+            shares,
+            |region| record.price(region),
+            |line| record.flow(line),
+        );
+        let pre_dispatch = if record.has(PRE_DISPATCH) {
+            let price = |region| record.pre_dispatch_price(region);
+            Residue::all(shares, price, |line| record.pre_dispatch_flow(line))
+        } else {
+            [Residue::default(); 4]
+        };
         let loop_sum: i64 = residues[1..].iter().map(|residue| residue.cents).sum();
-        let exempt = record.flags & LOOP != 0 && loop_sum >= 0;
+        let exempt = record.has(LOOP) && loop_sum >= 0;
         for (number, direction) in self.directions.iter_mut().enumerate() {
             let (corridor, to_from) = (number / 2, number % 2 == 1);
             let flag = !(exempt && corridor > 0);
             let target = residues[corridor].target;
+            let next = pre_dispatch[corridor].in_direction(to_from).min(0);
             let input = Input {
-                n: record.n,
-                review: record.flags & REVIEW != 0,
+                n: record.n(),
+                review: record.has(REVIEW),
                 flag,
                 residue: residues[corridor].in_direction(to_from),
-                next: if flag { ahead[corridor].in_direction(to_from).min(0) } else { 0 },
+                next: if flag { next } else { 0 },
                 target: if to_from { -target } else { target },
-                status: record.statuses[number],
+                status: record.status(number),
             };
             direction.step(&STEPS[number], &input);
             push_row(listing, NAMES[number], direction, &input);
@@ -411,46 +502,47 @@ impl Tracker {
 
 // ---------------------------------------------------------------- listing
 
+/// The digits of a number, from the last pair on, then the byte that ends it.
+fn push_number(listing: &mut Vec<u8>, value: i64, end: u8) {
+    let mut digits = [0; MOST_DIGITS];
+    let mut start = MOST_DIGITS;
+    let mut rest = value.unsigned_abs();
+    while rest >= 10 {
+        let pair = 2 * (rest % 100) as usize;
+        start -= 2;
+        digits[start..start + 2].copy_from_slice(&PAIRS[pair..pair + 2]);
+        rest /= 100;
+    }
+    if rest > 0 || start == MOST_DIGITS {
+        start -= 1;
+        digits[start] = b'0' + rest as u8;
+    }
+    if value < 0 {
+        listing.push(b'-');
+    }
+    listing.extend_from_slice(&digits[start..]);
+    listing.push(end);
+}
+
 /// A row is shown if amount or next is negative, or a clamp applies.
 fn push_row(listing: &mut Vec<u8>, name: &str, direction: &Direction, input: &Input) {
     let (amount, applies) = (direction.amount(), direction.applies());
     if amount >= 0 && input.next >= 0 && !applies {
         return;
     }
-    push_number(listing, i64::from(input.n));
-    listing.push(b',');
+    push_number(listing, input.n.into(), b',');
     listing.extend_from_slice(name.as_bytes());
+    listing.push(b',');
     for value in [
-        i64::from(applies),
+        applies.into(),
         amount,
         direction.previous,
         direction.current,
         input.next,
-        direction.clamp,
     ] {
-        listing.push(b',');
-        push_number(listing, value);
+        push_number(listing, value, b',');
     }
-    listing.push(b'\n');
-}
-
-fn push_number(listing: &mut Vec<u8>, value: i64) {
-    let mut digits = [0; 20];
-    let mut at = digits.len();
-    let mut rest = value.unsigned_abs();
-    loop {
-        at -= 1;
-        digits[at] = b'0' + (rest % 10) as u8;
-        rest /= 10;
-        if rest == 0 {
-            break;
-        }
-    }
-    if value < 0 {
-        at -= 1;
-        digits[at] = b'-';
-    }
-    listing.extend_from_slice(&digits[at..]);
+    push_number(listing, direction.clamp, b'\n');
 }
 
 /// The rows of a whole journal, up to its end or its first refusal.
@@ -461,7 +553,7 @@ fn push_rows(journal: &[u8], listing: &mut Vec<u8>) -> Result<(), Refusal> {
     }
     let mut tracker = Tracker::open(u32_at(records, 0), [500; 6])?;
     for record in records.chunks_exact(RECORD) {
-        tracker.interval(record.try_into().unwrap(), listing)?;
+        tracker.interval(Record(record.try_into().unwrap()), listing)?;
     }
     Ok(())
 }
@@ -470,7 +562,8 @@ fn push_rows(journal: &[u8], listing: &mut Vec<u8>) -> Result<(), Refusal> {
 fn push_listing(journal: &[u8], listing: &mut Vec<u8>) {
     listing.extend_from_slice(HEADER.as_bytes());
     if let Err(number) = push_rows(journal, listing) {
-        listing.extend_from_slice(format!("refused,{number}\n").as_bytes());
+        listing.extend_from_slice(b"refused,");
+        push_number(listing, number.into(), b'\n');
     }
 }
 
@@ -479,7 +572,10 @@ fn push_listing(journal: &[u8], listing: &mut Vec<u8>) {
 /// One journal; one byte more than fits is enough to refuse the rest.
 fn one() -> io::Result<()> {
     let mut journal = Vec::with_capacity(MOST_BYTES + 1);
-    io::stdin().lock().take(MOST_BYTES as u64 + 1).read_to_end(&mut journal)?;
+    io::stdin()
+        .lock()
+        .take(MOST_BYTES as u64 + 1)
+        .read_to_end(&mut journal)?;
     let mut listing = Vec::with_capacity(MOST_LISTING);
     push_listing(&journal, &mut listing);
     io::stdout().write_all(&listing)
@@ -511,6 +607,9 @@ fn main() -> io::Result<()> {
     match std::env::args().nth(1).as_deref() {
         None => one(),
         Some("--many") => many(),
-        Some(_) => Err(io::Error::new(ErrorKind::InvalidInput, "usage: clampday [--many]")),
+        Some(_) => Err(io::Error::new(
+            ErrorKind::InvalidInput,
+            "usage: clampday [--many]",
+        )),
     }
 }

@@ -56,7 +56,9 @@ struct Tally {
 fn refusal(listing: &[u8]) -> u32 {
     let text = String::from_utf8_lossy(listing);
     let last = text.lines().last().unwrap_or_default();
-    last.strip_prefix("refused,").and_then(|number| number.parse().ok()).unwrap_or(0)
+    last.strip_prefix("refused,")
+        .and_then(|number| number.parse().ok())
+        .unwrap_or(0)
 }
 
 fn ask(yardstick: &mut Child, journal: &[u8]) -> io::Result<Vec<u8>> {
@@ -68,17 +70,30 @@ fn ask(yardstick: &mut Child, journal: &[u8]) -> io::Result<Vec<u8>> {
 
 /// One process, one journal. A program may stop reading before the end.
 fn run(program: &str, journal: &[u8]) -> io::Result<(Vec<u8>, ExitStatus)> {
-    let mut child = Command::new(program).stdin(Stdio::piped()).stdout(Stdio::piped()).spawn()?;
+    let mut child = Command::new(program)
+        .stdin(Stdio::piped())
+        .stdout(Stdio::piped())
+        .spawn()?;
     match child.stdin.take().expect("piped").write_all(journal) {
         Err(error) if error.kind() != ErrorKind::BrokenPipe => return Err(error),
         _ => {}
     }
     let mut listing = Vec::new();
-    child.stdout.take().expect("piped").read_to_end(&mut listing)?;
+    child
+        .stdout
+        .take()
+        .expect("piped")
+        .read_to_end(&mut listing)?;
     Ok((listing, child.wait()?))
 }
 
-fn keep(directory: &str, number: usize, journal: &[u8], expected: &[u8], got: &[u8]) -> io::Result<()> {
+fn keep(
+    directory: &str,
+    number: usize,
+    journal: &[u8],
+    expected: &[u8],
+    got: &[u8],
+) -> io::Result<()> {
     let path = format!("{directory}/difference-{number}");
     std::fs::write(format!("{path}.journal"), journal)?;
     std::fs::write(format!("{path}.expected.csv"), expected)?;
@@ -87,8 +102,14 @@ fn keep(directory: &str, number: usize, journal: &[u8], expected: &[u8], got: &[
     Ok(())
 }
 
-fn work<R: Read>(names: &[String], stream: &Mutex<Stream<R>>, tally: &Mutex<Tally>) -> io::Result<()> {
-    let [yardstick, program, directory] = names else { unreachable!() };
+fn work<R: Read>(
+    names: &[String],
+    stream: &Mutex<Stream<R>>,
+    tally: &Mutex<Tally>,
+) -> io::Result<()> {
+    let [yardstick, program, directory] = names else {
+        unreachable!()
+    };
     let mut yardstick = Command::new(yardstick)
         .arg("--many")
         .stdin(Stdio::piped())
@@ -119,18 +140,39 @@ fn work<R: Read>(names: &[String], stream: &Mutex<Stream<R>>, tally: &Mutex<Tall
 fn main() -> io::Result<ExitCode> {
     let names: Vec<String> = std::env::args().skip(1).collect();
     if names.len() != 3 {
-        return Err(io::Error::other("usage: driver YARDSTICK PROGRAM DIR < stream"));
+        return Err(io::Error::other(
+            "usage: driver YARDSTICK PROGRAM DIR < stream",
+        ));
     }
-    let stream = Mutex::new(Stream { input: BufReader::new(io::stdin()), taken: 0 });
+    let stream = Mutex::new(Stream {
+        input: BufReader::new(io::stdin()),
+        taken: 0,
+    });
     let tally = Mutex::new(Tally::default());
     thread::scope(|scope| {
-        let workers: Vec<_> = (0..THREADS).map(|_| scope.spawn(|| work(&names, &stream, &tally))).collect();
-        workers.into_iter().try_for_each(|worker| worker.join().expect("a worker panicked"))
+        let workers: Vec<_> = (0..THREADS)
+            .map(|_| scope.spawn(|| work(&names, &stream, &tally)))
+            .collect();
+        workers
+            .into_iter()
+            .try_for_each(|worker| worker.join().expect("a worker panicked"))
     })?;
     let tally = tally.into_inner().unwrap();
     println!("{} rows; journals by refusal (0: none):", tally.rows);
-    let ends: Vec<String> = tally.ends.iter().map(|(end, count)| format!("{end}: {count}")).collect();
+    let ends: Vec<String> = tally
+        .ends
+        .iter()
+        .map(|(end, count)| format!("{end}: {count}"))
+        .collect();
     println!("{}", ends.join(", "));
-    println!("{} journals, {} differences", stream.into_inner().unwrap().taken, tally.differences);
-    Ok(if tally.differences == 0 { ExitCode::SUCCESS } else { ExitCode::FAILURE })
+    println!(
+        "{} journals, {} differences",
+        stream.into_inner().unwrap().taken,
+        tally.differences
+    );
+    Ok(if tally.differences == 0 {
+        ExitCode::SUCCESS
+    } else {
+        ExitCode::FAILURE
+    })
 }

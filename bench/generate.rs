@@ -5,10 +5,10 @@
 //!   generate --cost DIR   writes empty, quiet and busy-36, -72, -144, -288
 //!                         into DIR, as NAME.journal
 //!
-//! A day is made record by record. A small book of the sums (rules 1 and 2)
-//! lets a record aim: at the threshold, at a band edge of net, at a loop sum of
-//! zero, each exactly or one cent beside it. If the book were wrong, the aim
-//! would be off and nothing else.
+//! A day is made record by record. The sums of rules 1 and 2 are kept beside it,
+//! so that a record can aim: at the threshold, at a band edge of net, at a loop
+//! sum of zero, each exactly or one cent beside it. If these sums were wrong, the
+//! aim would be off and nothing else.
 
 use std::io::{self, BufWriter, Error, Write};
 
@@ -20,11 +20,12 @@ const THRESHOLD: i64 = -10_000_000;
 const BAND_EDGES: [i64; 3] = [-500_000, -100_000, 100_000];
 
 /// From region, To region, first line, number of lines.
-const CORRIDORS: [(usize, usize, usize, usize); 4] = [(0, 1, 0, 2), (3, 0, 2, 1), (3, 2, 3, 2), (0, 2, 5, 1)];
+const CORRIDORS: [(usize, usize, usize, usize); 4] =
+    [(0, 1, 0, 2), (3, 0, 2, 1), (3, 2, 3, 2), (0, 2, 5, 1)];
 
 // ----------------------------------------------------------------- chance
 
-/// xorshift64*, seeded through splitmix so that near seeds part at once.
+/// xorshift64*, seeded through splitmix so that near seeds give unlike journals.
 struct Random(u64);
 
 impl Random {
@@ -75,8 +76,8 @@ struct Record {
     zeros: [u8; 3],
     prices: [i32; 4],
     lines: [[i32; 3]; 6],
-    ahead_prices: [i32; 4],
-    ahead: [[i32; 2]; 6],
+    pre_dispatch_prices: [i32; 4],
+    pre_dispatch: [[i32; 2]; 6],
 }
 
 impl Record {
@@ -86,8 +87,11 @@ impl Record {
         bytes.extend(self.statuses);
         bytes.extend(self.zeros);
         let now = self.prices.iter().chain(self.lines.as_flattened());
-        let ahead = self.ahead_prices.iter().chain(self.ahead.as_flattened());
-        for value in now.chain(ahead) {
+        let pre_dispatch = self
+            .pre_dispatch_prices
+            .iter()
+            .chain(self.pre_dispatch.as_flattened());
+        for value in now.chain(pre_dispatch) {
             bytes.extend(value.to_le_bytes());
         }
     }
@@ -117,7 +121,12 @@ fn journal(preface: &[u8], records: &[Record]) -> Vec<u8> {
     records.iter().for_each(|record| record.push(&mut bytes));
     let ends = records.first().zip(records.last());
     let (first, last) = ends.map_or((0, 0), |(first, last)| (first.n, last.n));
-    for number in [records.len() as u32, 168 * records.len() as u32, first, last] {
+    for number in [
+        records.len() as u32,
+        168 * records.len() as u32,
+        first,
+        last,
+    ] {
         bytes.extend(number.to_le_bytes());
     }
     bytes
@@ -127,7 +136,7 @@ fn journal(preface: &[u8], records: &[Record]) -> Vec<u8> {
 
 /// What the intervals of a run are like.
 #[derive(Clone, Copy)]
-enum Mood {
+enum Pattern {
     Zero,
     Quiet,
     Steady,
@@ -138,14 +147,43 @@ enum Mood {
     Halves,
 }
 
-/// The moods by which a journal lives; some are given more often.
-const MOODS: [&[Mood]; 6] = [
-    &[Mood::Steady, Mood::Quiet, Mood::Steady, Mood::Zero],
-    &[Mood::Threshold, Mood::Quiet, Mood::Band, Mood::Zero],
-    &[Mood::Threshold, Mood::LoopSum, Mood::Band, Mood::Quiet],
-    &[Mood::Wild, Mood::Wild, Mood::Zero, Mood::Steady],
-    &[Mood::Halves, Mood::Steady, Mood::Threshold, Mood::Zero],
-    &[Mood::Zero, Mood::Quiet, Mood::Steady, Mood::Wild, Mood::Threshold, Mood::Band, Mood::LoopSum, Mood::Halves],
+/// What a journal draws its patterns from; one that stands twice comes more often.
+const PATTERNS: [&[Pattern]; 6] = [
+    &[
+        Pattern::Steady,
+        Pattern::Quiet,
+        Pattern::Steady,
+        Pattern::Zero,
+    ],
+    &[
+        Pattern::Threshold,
+        Pattern::Quiet,
+        Pattern::Band,
+        Pattern::Zero,
+    ],
+    &[
+        Pattern::Threshold,
+        Pattern::LoopSum,
+        Pattern::Band,
+        Pattern::Quiet,
+    ],
+    &[Pattern::Wild, Pattern::Wild, Pattern::Zero, Pattern::Steady],
+    &[
+        Pattern::Halves,
+        Pattern::Steady,
+        Pattern::Threshold,
+        Pattern::Zero,
+    ],
+    &[
+        Pattern::Zero,
+        Pattern::Quiet,
+        Pattern::Steady,
+        Pattern::Wild,
+        Pattern::Threshold,
+        Pattern::Band,
+        Pattern::LoopSum,
+        Pattern::Halves,
+    ],
 ];
 
 /// A value that stays for a run of intervals.
@@ -156,9 +194,17 @@ struct Run<T> {
 }
 
 impl<T: Copy> Run<T> {
-    fn next(&mut self, random: &mut Random, longest: usize, choose: impl Fn(&mut Random) -> T) -> T {
+    fn next(
+        &mut self,
+        random: &mut Random,
+        longest: usize,
+        choose: impl Fn(&mut Random) -> T,
+    ) -> T {
         if self.left == 0 {
-            *self = Run { value: choose(random), left: 1 + random.below(longest) };
+            *self = Run {
+                value: choose(random),
+                left: 1 + random.below(longest),
+            };
         }
         self.left -= 1;
         self.value
@@ -167,8 +213,8 @@ impl<T: Copy> Run<T> {
 
 struct Day<'a> {
     random: &'a mut Random,
-    moods: &'static [Mood],
-    mood: Run<usize>,
+    patterns: &'static [Pattern],
+    pattern: Run<usize>,
     focus: Run<usize>,
     review: Run<bool>,
     looped: Run<bool>,
@@ -182,9 +228,9 @@ struct Day<'a> {
 impl<'a> Day<'a> {
     fn new(random: &'a mut Random) -> Day<'a> {
         Day {
-            moods: random.pick(&MOODS),
+            patterns: random.pick(&PATTERNS),
             random,
-            mood: Run::default(),
+            pattern: Run::default(),
             focus: Run::default(),
             review: Run::default(),
             looped: Run::default(),
@@ -197,40 +243,50 @@ impl<'a> Day<'a> {
     }
 
     fn record(&mut self, n: u32) -> Record {
-        let mut record = Record { n, ..Record::default() };
-        let moods = self.moods;
-        let mood = moods[self.mood.next(self.random, 7, |random| random.below(moods.len()))];
+        let mut record = Record {
+            n,
+            ..Record::default()
+        };
+        let patterns = self.patterns;
+        let pattern = patterns[self
+            .pattern
+            .next(self.random, 7, |random| random.below(patterns.len()))];
         let focus = self.focus.next(self.random, 40, |random| random.below(8));
-        let ahead = n % 6 == 5 && self.random.percent(70);
-        let review = self.review.next(self.random, 12, |random| random.percent(12));
-        let looped = self.looped.next(self.random, 12, |random| random.percent(40));
-        record.flags = u8::from(review) | u8::from(looped) << 1 | u8::from(ahead) << 2;
+        let present = n % 6 == 5 && self.random.percent(70);
+        let review = self
+            .review
+            .next(self.random, 12, |random| random.percent(12));
+        let looped = self
+            .looped
+            .next(self.random, 12, |random| random.percent(40));
+        record.flags = u8::from(review) | u8::from(looped) << 1 | u8::from(present) << 2;
         for direction in 0..8 {
-            let status = self.statuses[direction].next(self.random, 6, |random| random.pick(&[0, 0, 1, 2, 2]));
+            let status = self.statuses[direction]
+                .next(self.random, 6, |random| random.pick(&[0, 0, 1, 2, 2]));
             let block = self.blocks[direction].next(self.random, 10, |random| random.percent(8));
             record.statuses[direction] = status | u8::from(block) << 2;
         }
         if n % 6 == 0 {
-            self.turn_half_hour();
+            self.start_half_hour();
         }
-        self.fill(&mut record, mood, focus);
-        self.enter(&record);
-        if ahead {
-            self.fill_ahead(&mut record, mood, focus);
+        self.fill(&mut record, pattern, focus);
+        self.add_up(&record);
+        if present {
+            self.fill_pre_dispatch(&mut record, pattern, focus);
         }
         record
     }
 
-    /// Rule 1 in the book.
-    fn turn_half_hour(&mut self) {
+    /// Rule 1, on the sums kept beside the day.
+    fn start_half_hour(&mut self) {
         for direction in 0..8 {
             self.previous[direction] += self.current[direction];
             (self.current[direction], self.net[direction]) = (0, 0);
         }
     }
 
-    /// Rule 2 in the book.
-    fn enter(&mut self, record: &Record) {
+    /// Rule 2, likewise.
+    fn add_up(&mut self, record: &Record) {
         let exempt = record.flags & 2 != 0 && record.loop_sum() >= 0;
         for corridor in 0..4 {
             let (direction, cents) = record.residue(corridor);
@@ -247,39 +303,56 @@ impl<'a> Day<'a> {
         }
     }
 
-    fn fill(&mut self, record: &mut Record, mood: Mood, focus: usize) {
-        match mood {
-            Mood::Zero => {}
-            Mood::Quiet => self.fill_flows(record, 0),
-            Mood::Steady => self.fill_flows(record, 65),
-            Mood::Wild => self.fill_wild(record),
-            Mood::Halves => self.fill_halves(record),
-            Mood::Threshold => {
-                let missing = THRESHOLD + self.random.between(-1, 1) - self.previous[focus] - self.current[focus];
+    fn fill(&mut self, record: &mut Record, pattern: Pattern, focus: usize) {
+        match pattern {
+            Pattern::Zero => {}
+            Pattern::Quiet => self.fill_flows(record, 0),
+            Pattern::Steady => self.fill_flows(record, 65),
+            Pattern::Wild => self.fill_wild(record),
+            Pattern::Halves => self.fill_halves(record),
+            Pattern::Threshold => {
+                let missing = THRESHOLD + self.random.between(-1, 1)
+                    - self.previous[focus]
+                    - self.current[focus];
                 let part = missing / self.random.between(2, 5);
                 let small = -self.random.between(0, 200_000);
                 let cents = self.random.pick(&[missing, missing, part, small]);
                 self.aim(record, focus, if cents > 0 { small } else { cents });
             }
-            Mood::Band => {
+            Pattern::Band => {
                 let edge = self.random.pick(&BAND_EDGES) + self.random.between(-1, 1);
                 self.aim(record, focus, edge - self.net[focus]);
             }
-            Mood::LoopSum => self.fill_loop_sum(record),
+            Pattern::LoopSum => self.fill_loop_sum(record),
         }
     }
 
     /// Ordinary prices; a flow runs against them with the chance given.
     fn fill_flows(&mut self, record: &mut Record, against: u64) {
-        let top = self.random.pick(&[5_000, 30_000, 30_000, 300_000, 1_500_000]);
+        let top = self
+            .random
+            .pick(&[5_000, 30_000, 30_000, 300_000, 1_500_000]);
         let most = self.random.pick(&[3_000, 40_000, 40_000, 150_000]);
-        let losses = if against > 0 { self.random.pick(&[0, 2_000]) } else { 0 };
+        let losses = if against > 0 {
+            self.random.pick(&[0, 2_000])
+        } else {
+            0
+        };
         record.prices = [0; 4].map(|_| self.random.between(-20_000, top) as i32);
         for (from, to, first, lines) in CORRIDORS {
-            let towards = if record.prices[to] >= record.prices[from] { 1 } else { -1 };
-            let sign = if self.random.percent(against) { -towards } else { towards };
+            let towards = if record.prices[to] >= record.prices[from] {
+                1
+            } else {
+                -1
+            };
+            let sign = if self.random.percent(against) {
+                -towards
+            } else {
+                towards
+            };
             for line in &mut record.lines[first..first + lines] {
-                let [metered, target] = [0; 2].map(|_| (sign * self.random.between(0, most)) as i32);
+                let [metered, target] =
+                    [0; 2].map(|_| (sign * self.random.between(0, most)) as i32);
                 *line = [metered, target, self.random.between(-losses, losses) as i32];
             }
         }
@@ -288,7 +361,11 @@ impl<'a> Day<'a> {
     fn fill_wild(&mut self, record: &mut Record) {
         record.prices = [0; 4].map(|_| self.random.edge(PRICE));
         for line in &mut record.lines {
-            *line = [self.random.edge(FLOW), self.random.edge(FLOW), self.random.edge(LOSS)];
+            *line = [
+                self.random.edge(FLOW),
+                self.random.edge(FLOW),
+                self.random.edge(LOSS),
+            ];
         }
     }
 
@@ -304,7 +381,10 @@ impl<'a> Day<'a> {
     /// Some flows round the loop, the last of them making its sum -1, 0 or 1.
     fn fill_loop_sum(&mut self, record: &mut Record) {
         self.fill_flows(record, 50);
-        let (corridor, weight) = (1 + self.random.below(3), self.random.pick(&[-84, -40, 40, 84]));
+        let (corridor, weight) = (
+            1 + self.random.below(3),
+            self.random.pick(&[-84, -40, 40, 84]),
+        );
         self.set_prices(record, corridor, weight);
         let (_, _, first, lines) = CORRIDORS[corridor];
         record.lines[first..first + lines].fill([0; 3]);
@@ -327,7 +407,13 @@ impl<'a> Day<'a> {
         }
         self.set_prices(record, corridor, weight);
         let flow = cents / weight;
-        self.set_flow(record, corridor, if sign < 0 { flow.min(-1) } else { flow }, weight, cents);
+        self.set_flow(
+            record,
+            corridor,
+            if sign < 0 { flow.min(-1) } else { flow },
+            weight,
+            cents,
+        );
     }
 
     /// To plus From is 2,400 and To minus From is 2,400 times the weight, so
@@ -339,12 +425,26 @@ impl<'a> Day<'a> {
     }
 
     /// Spreads a flow over a corridor's lines and over metered and target.
-    fn set_flow(&mut self, record: &mut Record, corridor: usize, flow: i64, weight: i64, cents: i64) {
+    fn set_flow(
+        &mut self,
+        record: &mut Record,
+        corridor: usize,
+        flow: i64,
+        weight: i64,
+        cents: i64,
+    ) {
         let (_, _, first, lines) = CORRIDORS[corridor];
-        let aside = if lines == 2 && self.random.percent(50) { self.random.between(-90_000, 90_000) } else { 0 };
+        let aside = if lines == 2 && self.random.percent(50) {
+            self.random.between(-90_000, 90_000)
+        } else {
+            0
+        };
         let parts = [flow + aside, -aside];
         for (line, part) in record.lines[first..first + lines].iter_mut().zip(parts) {
-            let (near, far) = (self.random.between(-20_000, 20_000), self.random.edge(FLOW).into());
+            let (near, far) = (
+                self.random.between(-20_000, 20_000),
+                self.random.edge(FLOW).into(),
+            );
             let target = self.random.pick(&[part / 2, part / 2, near, far]);
             let target = target.clamp(FLOW.0.max(part - FLOW.1), FLOW.1.min(part - FLOW.0));
             *line = [(part - target) as i32, target as i32, 0];
@@ -352,37 +452,49 @@ impl<'a> Day<'a> {
         record.lines[first][2] = (weight * flow - cents) as i32;
     }
 
-    fn fill_ahead(&mut self, record: &mut Record, mood: Mood, focus: usize) {
-        match mood {
-            Mood::Zero => {}
-            Mood::Wild => {
-                record.ahead_prices = [0; 4].map(|_| self.random.edge(PRICE));
-                record.ahead = [[0; 2]; 6].map(|_| [self.random.edge(FLOW), self.random.edge(LOSS)]);
+    fn fill_pre_dispatch(&mut self, record: &mut Record, pattern: Pattern, focus: usize) {
+        match pattern {
+            Pattern::Zero => {}
+            Pattern::Wild => {
+                record.pre_dispatch_prices = [0; 4].map(|_| self.random.edge(PRICE));
+                record.pre_dispatch =
+                    [[0; 2]; 6].map(|_| [self.random.edge(FLOW), self.random.edge(LOSS)]);
             }
-            Mood::Threshold | Mood::Band | Mood::LoopSum => {
-                let missing = THRESHOLD + self.random.between(-1, 1) - self.previous[focus] - self.current[focus];
-                self.aim_ahead(record, focus, missing);
+            Pattern::Threshold | Pattern::Band | Pattern::LoopSum => {
+                let missing = THRESHOLD + self.random.between(-1, 1)
+                    - self.previous[focus]
+                    - self.current[focus];
+                self.aim_pre_dispatch(record, focus, missing);
             }
-            Mood::Quiet | Mood::Steady | Mood::Halves => {
+            Pattern::Quiet | Pattern::Steady | Pattern::Halves => {
                 let top = self.random.pick(&[5_000, 30_000, 300_000]);
-                record.ahead_prices = [0; 4].map(|_| self.random.between(-20_000, top) as i32);
-                record.ahead = [[0; 2]; 6]
-                    .map(|_| [self.random.between(-40_000, 40_000) as i32, self.random.between(-900, 900) as i32]);
+                record.pre_dispatch_prices =
+                    [0; 4].map(|_| self.random.between(-20_000, top) as i32);
+                record.pre_dispatch = [[0; 2]; 6].map(|_| {
+                    [
+                        self.random.between(-40_000, 40_000) as i32,
+                        self.random.between(-900, 900) as i32,
+                    ]
+                });
             }
         }
     }
 
-    /// The same aim for the half-hour ahead: a sixth of the prices will do.
-    fn aim_ahead(&mut self, record: &mut Record, direction: usize, cents: i64) {
+    /// The same aim for pre-dispatch, where a sixth of the prices will do.
+    fn aim_pre_dispatch(&mut self, record: &mut Record, direction: usize, cents: i64) {
         let (from, to, first, _) = CORRIDORS[direction / 2];
         let sign = if direction % 2 == 0 { 1 } else { -1 };
         let cents = cents.clamp(-400_000_000, 400_000_000);
         let least = cents.abs() / 490_000 + 1;
         let weight = sign * if cents < 0 { -1 } else { 1 } * self.random.between(least, 900);
-        record.ahead_prices[from] = (200 - 100 * weight) as i32;
-        record.ahead_prices[to] = (200 + 100 * weight) as i32;
-        let flow = if sign < 0 { (cents / weight).min(-1) } else { cents / weight };
-        record.ahead[first] = [flow as i32, (weight * flow - cents) as i32];
+        record.pre_dispatch_prices[from] = (200 - 100 * weight) as i32;
+        record.pre_dispatch_prices[to] = (200 + 100 * weight) as i32;
+        let flow = if sign < 0 {
+            (cents / weight).min(-1)
+        } else {
+            cents / weight
+        };
+        record.pre_dispatch[first] = [flow as i32, (weight * flow - cents) as i32];
     }
 }
 
@@ -391,7 +503,14 @@ impl<'a> Day<'a> {
 /// Spoils one record in one way, or brings it right to an edge.
 fn damage_record(random: &mut Random, record: &mut Record) {
     let beyond = |random: &mut Random, (low, high): (i64, i64)| {
-        random.pick(&[low - 1, high + 1, low, high, i32::MIN.into(), i32::MAX.into()]) as i32
+        random.pick(&[
+            low - 1,
+            high + 1,
+            low,
+            high,
+            i32::MIN.into(),
+            i32::MAX.into(),
+        ]) as i32
     };
     let (line, region) = (random.below(6), random.below(4));
     match random.below(15) {
@@ -405,11 +524,11 @@ fn damage_record(random: &mut Random, record: &mut Record) {
         7 => record.lines[line][0] = beyond(random, FLOW),
         8 => record.lines[line][1] = beyond(random, FLOW),
         9 => record.lines[line][2] = beyond(random, LOSS),
-        10 => record.ahead_prices[region] = beyond(random, PRICE),
-        11 => record.ahead[line][0] = beyond(random, FLOW),
-        12 => record.ahead[line][1] = beyond(random, LOSS),
-        13 => record.ahead[line][random.below(2)] = random.pick(&[0, 1, -1]),
-        _ => record.ahead_prices[region] = random.pick(&[0, 1, -1]),
+        10 => record.pre_dispatch_prices[region] = beyond(random, PRICE),
+        11 => record.pre_dispatch[line][0] = beyond(random, FLOW),
+        12 => record.pre_dispatch[line][1] = beyond(random, LOSS),
+        13 => record.pre_dispatch[line][random.below(2)] = random.pick(&[0, 1, -1]),
+        _ => record.pre_dispatch_prices[region] = random.pick(&[0, 1, -1]),
     }
 }
 
@@ -423,7 +542,15 @@ fn damage_order(random: &mut Random, records: &mut Vec<Record>) {
         3 => records.reverse(),
         4 => records[at].n = random.pick(&[0, 1, LAST_INTERVAL, LAST_INTERVAL + 1, u32::MAX]),
         _ => {
-            let start = random.pick(&[u32::MAX, u32::MAX - 3, LAST_INTERVAL + 1, LAST_INTERVAL + 7, 1, 5, 7]);
+            let start = random.pick(&[
+                u32::MAX,
+                u32::MAX - 3,
+                LAST_INTERVAL + 1,
+                LAST_INTERVAL + 7,
+                1,
+                5,
+                7,
+            ]);
             for (record, k) in records.iter_mut().zip(0..) {
                 record.n = start.wrapping_add(k);
             }
@@ -437,7 +564,14 @@ fn damage_trailer(random: &mut Random, bytes: &mut [u8]) {
     let number = u32::from_le_bytes(bytes[at..at + 4].try_into().unwrap());
     // 168 x 536,870,912 is 0 in 32 bits.
     let by = random.pick(&[1, 168, 536_870_912, u32::MAX, u32::MAX - 167]);
-    let spoiled = random.pick(&[number.wrapping_add(by), number.wrapping_add(by), 0, 288, 289, 48_384]);
+    let spoiled = random.pick(&[
+        number.wrapping_add(by),
+        number.wrapping_add(by),
+        0,
+        288,
+        289,
+        48_384,
+    ]);
     bytes[at..at + 4].copy_from_slice(&spoiled.to_le_bytes());
 }
 
@@ -476,10 +610,20 @@ fn random_journal(random: &mut Random) -> Vec<u8> {
     let anywhere = 6 * random.below(175_200);
     let first = random.pick(&[0, 0, 6, anywhere, anywhere, near_end]);
     let overrun = random.percent(10);
-    let count = if overrun { count } else { count.min(LAST_INTERVAL as usize + 1 - first) };
+    let count = if overrun {
+        count
+    } else {
+        count.min(LAST_INTERVAL as usize + 1 - first)
+    };
     let mut day = Day::new(random);
-    let mut records: Vec<Record> = (first..first + count).map(|n| day.record(n as u32)).collect();
-    let damage = if random.percent(25) { random.below(5) } else { 9 };
+    let mut records: Vec<Record> = (first..first + count)
+        .map(|n| day.record(n as u32))
+        .collect();
+    let damage = if random.percent(25) {
+        random.below(5)
+    } else {
+        9
+    };
     if damage <= 1 && count > 0 {
         let (at, twice) = (random.below(count), random.below(count));
         damage_record(random, &mut records[at]);
@@ -510,16 +654,24 @@ fn random_journal(random: &mut Random) -> Vec<u8> {
 /// Full lines and full pre-dispatch, every flow towards the higher price.
 fn quiet_day() -> Vec<Record> {
     let record = |n: u32| {
-        let ahead = n % 6 == 5;
+        let present = n % 6 == 5;
         let flow = 20_000 + 100 * (n % 50) as i32;
         Record {
             n,
-            flags: u8::from(ahead) << 2,
+            flags: u8::from(present) << 2,
             statuses: [1; 8],
             prices: [9_000, 9_500, 9_500, 8_500],
             lines: [[flow, flow + 50, 100]; 6],
-            ahead_prices: if ahead { [9_000, 9_500, 9_500, 8_500] } else { [0; 4] },
-            ahead: if ahead { [[flow, 100]; 6] } else { [[0; 2]; 6] },
+            pre_dispatch_prices: if present {
+                [9_000, 9_500, 9_500, 8_500]
+            } else {
+                [0; 4]
+            },
+            pre_dispatch: if present {
+                [[flow, 100]; 6]
+            } else {
+                [[0; 2]; 6]
+            },
             ..Record::default()
         }
     };
@@ -530,7 +682,7 @@ fn quiet_day() -> Vec<Record> {
 /// that all eight directions stay in a period from the first half-hour on.
 fn busy_day() -> Vec<Record> {
     let record = |n: u32| {
-        let ahead = n % 6 == 5;
+        let present = n % 6 == 5;
         let sign = if n % 2 == 0 { 1 } else { -1 };
         let flow = sign * (30_000 + 100 * (n % 50) as i32);
         let falling = [90_000, -90_000, -90_000, 270_000];
@@ -538,12 +690,16 @@ fn busy_day() -> Vec<Record> {
         let prices = if sign > 0 { falling } else { rising };
         Record {
             n,
-            flags: u8::from(ahead) << 2,
+            flags: u8::from(present) << 2,
             statuses: [1; 8],
             prices,
             lines: [[flow, flow + 50, 100]; 6],
-            ahead_prices: if ahead { prices } else { [0; 4] },
-            ahead: if ahead { [[flow, 100]; 6] } else { [[0; 2]; 6] },
+            pre_dispatch_prices: if present { prices } else { [0; 4] },
+            pre_dispatch: if present {
+                [[flow, 100]; 6]
+            } else {
+                [[0; 2]; 6]
+            },
             ..Record::default()
         }
     };
