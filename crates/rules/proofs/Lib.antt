@@ -17,6 +17,6 @@ pub mod Fresh
 pub mod Refusals
 pub mod Demand
 pub mod Came
-pub mod FromClaim
+pub mod ByClaim
 pub mod StateBounds
 pub mod OneCallMore

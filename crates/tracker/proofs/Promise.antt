@@ -28,7 +28,7 @@ pub use Rattle.rules.proofs.EachBelow.{both-false}
 pub use Rattle.rules.proofs.Directions.{at-direction}
 pub use Rattle.rules.proofs.Accepted.{accepted-iff, number-met}
 pub use Rattle.rules.proofs.FirstMet.{Passed, never, untested, pass, refused-at, accepted-past}
-pub use Rattle.rules.proofs.FromClaim.{NoCause, not-without-cause, clamped-at, amount-is}
+pub use Rattle.rules.proofs.ByClaim.{NoCause, not-without-cause, clamped-at, amount-is}
 pub use Rattle.rules.proofs.Refusals.{numbers}
 pub use Rattle.rules.proofs.OneCallMore.{refused-longer, accepted-longer, awaits-one-more, shows-awaited, worked-direction}
 use Rattle.tracker.specs.Promise.{Came, OpenPromise, CallAfter, IntervalPromise, RowPromise}
