@@ -385,7 +385,7 @@ impl Direction {
         }
         self.current += input.residue.min(0);
         self.net += input.residue;
-        if self.current == 0 {
+        if input.n % 6 == 5 && self.current == 0 {
             self.previous = 0;
         }
     }

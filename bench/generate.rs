@@ -135,10 +135,12 @@ fn journal(preface: &[u8], records: &[Record]) -> Vec<u8> {
 // -------------------------------------------------------------------- day
 
 /// What the intervals of a run are like.
-#[derive(Clone, Copy)]
+#[derive(Clone, Copy, Default)]
 enum Pattern {
+    #[default]
     Zero,
     Quiet,
+    Mild,
     Steady,
     Wild,
     Threshold,
@@ -147,8 +149,18 @@ enum Pattern {
     Halves,
 }
 
+impl Pattern {
+    /// Intervals of a run at most: a mild spell may outlast three half-hours.
+    fn longest(self) -> usize {
+        match self {
+            Pattern::Mild => 24,
+            _ => 7,
+        }
+    }
+}
+
 /// What a journal draws its patterns from; one that stands twice comes more often.
-const PATTERNS: [&[Pattern]; 6] = [
+const PATTERNS: [&[Pattern]; 8] = [
     &[
         Pattern::Steady,
         Pattern::Quiet,
@@ -167,6 +179,8 @@ const PATTERNS: [&[Pattern]; 6] = [
         Pattern::Band,
         Pattern::Quiet,
     ],
+    &[Pattern::Threshold, Pattern::Mild],
+    &[Pattern::Steady, Pattern::Mild, Pattern::Threshold],
     &[Pattern::Wild, Pattern::Wild, Pattern::Zero, Pattern::Steady],
     &[
         Pattern::Halves,
@@ -177,6 +191,7 @@ const PATTERNS: [&[Pattern]; 6] = [
     &[
         Pattern::Zero,
         Pattern::Quiet,
+        Pattern::Mild,
         Pattern::Steady,
         Pattern::Wild,
         Pattern::Threshold,
@@ -194,15 +209,13 @@ struct Run<T> {
 }
 
 impl<T: Copy> Run<T> {
-    fn next(
-        &mut self,
-        random: &mut Random,
-        longest: usize,
-        choose: impl Fn(&mut Random) -> T,
-    ) -> T {
+    /// Of a run that is over another begins: `choose` gives its value, and how
+    /// long it may be.
+    fn next(&mut self, random: &mut Random, choose: impl Fn(&mut Random) -> (T, usize)) -> T {
         if self.left == 0 {
+            let (value, longest) = choose(random);
             *self = Run {
-                value: choose(random),
+                value,
                 left: 1 + random.below(longest),
             };
         }
@@ -214,7 +227,7 @@ impl<T: Copy> Run<T> {
 struct Day<'a> {
     random: &'a mut Random,
     patterns: &'static [Pattern],
-    pattern: Run<usize>,
+    pattern: Run<Pattern>,
     focus: Run<usize>,
     review: Run<bool>,
     looped: Run<bool>,
@@ -248,22 +261,23 @@ impl<'a> Day<'a> {
             ..Record::default()
         };
         let patterns = self.patterns;
-        let pattern = patterns[self
-            .pattern
-            .next(self.random, 7, |random| random.below(patterns.len()))];
-        let focus = self.focus.next(self.random, 40, |random| random.below(8));
+        let pattern = self.pattern.next(self.random, |random| {
+            let pattern = random.pick(patterns);
+            (pattern, pattern.longest())
+        });
+        let focus = self.focus.next(self.random, |random| (random.below(8), 40));
         let present = n % 6 == 5 && self.random.percent(70);
         let review = self
             .review
-            .next(self.random, 12, |random| random.percent(12));
+            .next(self.random, |random| (random.percent(12), 12));
         let looped = self
             .looped
-            .next(self.random, 12, |random| random.percent(40));
+            .next(self.random, |random| (random.percent(40), 12));
         record.flags = u8::from(review) | u8::from(looped) << 1 | u8::from(present) << 2;
         for direction in 0..8 {
             let status = self.statuses[direction]
-                .next(self.random, 6, |random| random.pick(&[0, 0, 1, 2, 2]));
-            let block = self.blocks[direction].next(self.random, 10, |random| random.percent(8));
+                .next(self.random, |random| (random.pick(&[0, 0, 1, 2, 2]), 6));
+            let block = self.blocks[direction].next(self.random, |random| (random.percent(8), 10));
             record.statuses[direction] = status | u8::from(block) << 2;
         }
         if n % 6 == 0 {
@@ -294,10 +308,11 @@ impl<'a> Day<'a> {
             self.net[direction] += cents;
         }
         for direction in 0..8 {
-            if exempt && direction > 1 {
+            let exempt = exempt && direction > 1;
+            if exempt {
                 (self.current[direction], self.net[direction]) = (0, 0);
             }
-            if self.current[direction] == 0 {
+            if exempt || record.n % 6 == 5 && self.current[direction] == 0 {
                 self.previous[direction] = 0;
             }
         }
@@ -307,6 +322,11 @@ impl<'a> Day<'a> {
         match pattern {
             Pattern::Zero => {}
             Pattern::Quiet => self.fill_flows(record, 0),
+            Pattern::Mild => {
+                if self.random.percent(50) {
+                    self.fill_flows(record, 0);
+                }
+            }
             Pattern::Steady => self.fill_flows(record, 65),
             Pattern::Wild => self.fill_wild(record),
             Pattern::Halves => self.fill_halves(record),
@@ -460,7 +480,7 @@ impl<'a> Day<'a> {
                 record.pre_dispatch =
                     [[0; 2]; 6].map(|_| [self.random.edge(FLOW), self.random.edge(LOSS)]);
             }
-            Pattern::Threshold | Pattern::Band | Pattern::LoopSum => {
+            Pattern::Threshold | Pattern::Band | Pattern::LoopSum | Pattern::Mild => {
                 let missing = THRESHOLD + self.random.between(-1, 1)
                     - self.previous[focus]
                     - self.current[focus];

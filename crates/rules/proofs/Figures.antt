@@ -1,16 +1,16 @@
--- Document 01's figures hold of the definitions.
+-- The figures hold of the definitions.
 -- Assumes nothing.
 use mathlib.Core.Path.{refl}
 use Rattle.rules.specs.Residue.{residueOf}
 use Rattle.rules.specs.Interval.{clearsAt, flagOf, nextOf, stepOf}
-use Rattle.rules.specs.History.{stateAfter}
+use Rattle.rules.specs.History.{inHalfHour, latestHalfHour, anyNegative, clearing, sinceClearing, sumNegative, stateAfter}
 use Rattle.rules.specs.Record.{u32At, i32At, prices, lines, preDispatchPrices, preDispatchLines, eventOf}
 use Rattle.rules.specs.Refusal.{each, badFlags, badStatus, badPrice, badFlow, preDispatchZero, preDispatchInside, badPreDispatch, intervalConditions, intervalOutcome, openConditions, openOutcome, rowConditions, rowOutcome}
 use Rattle.rules.specs.Tracker.{openOf, stepAll, advanced, intervalOf, rowOf, rowAnswer, run}
 use Rattle.rules.specs.Figures.{Figures}
 
 pub figures : Figures
-unfolding residueOf clearsAt flagOf nextOf stepOf stateAfter u32At i32At prices lines preDispatchPrices preDispatchLines eventOf each badFlags badStatus badPrice badFlow preDispatchZero preDispatchInside badPreDispatch intervalConditions intervalOutcome openConditions openOutcome rowConditions rowOutcome openOf stepAll advanced intervalOf rowOf rowAnswer run
+unfolding residueOf clearsAt flagOf nextOf stepOf inHalfHour latestHalfHour anyNegative clearing sinceClearing sumNegative stateAfter u32At i32At prices lines preDispatchPrices preDispatchLines eventOf each badFlags badStatus badPrice badFlow preDispatchZero preDispatchInside badPreDispatch intervalConditions intervalOutcome openConditions openOutcome rowConditions rowOutcome openOf stepAll advanced intervalOf rowOf rowAnswer run
 figures = record {
   P1 = refl;
   P1-record = (refl, refl);
@@ -27,4 +27,7 @@ figures = record {
   P10 = (refl, refl);
   P11 = refl;
   P12 = (refl, refl);
+  N4-opens = (refl, refl);
+  N4-stands = (refl, refl);
+  N4-cleared = (refl, refl);
 }

@@ -1,4 +1,5 @@
--- Laws that pin residue, loop flag and next from outside: they serve the calls and the claim alike, so that neither would show a wrong one.
+-- Laws that pin residue, loop flag and next from outside, since they serve the calls and the claim alike, so that neither would show a wrong
+-- one; and rule 2's clearing.
 -- Assumes nothing.
 use mathlib.Core.Path.{_≡_, refl, sym, ap, ap₂, _∙_}
 use mathlib.Core.Bool.{Bool, true, false, not, cond, _&&_, Bool·beq, false≢true, and-false}
@@ -17,9 +18,12 @@ use Rattle.units.specs.declared.Grains.{Grains}
 use Rattle.units.specs.declared.Hundredths.{Hundredths}
 use Rattle.units.specs.Units.{cents, _+ᶜ_, lowerOfZero, _+ʰ_, grains, _+ᵍ_}
 use Rattle.rules.specs.declared.Line.{Line}
+use Rattle.rules.specs.declared.Event.{Event}
+use Rattle.rules.specs.declared.Sums.{Sums}
+use Rattle.rules.specs.declared.Direction.{Direction}
 use Rattle.rules.specs.Market.{corridorOf, reverse}
 use Rattle.rules.specs.Residue.{grainsOf, rounded, price, line, corridorGrains, corridorFlow, residueOf}
-use Rattle.rules.specs.Interval.{place, flagOf, nextOf}
+use Rattle.rules.specs.Interval.{place, clearsAt, rule1, rule2, flagOf, nextOf, sumsAfter}
 use Rattle.rules.specs.Record.{recordNumber, operating, present, prices, lines, preDispatchPrices, preDispatchLines, residue, preDispatchResidue, flag, next}
 
 -- ---- the loop flag
@@ -53,6 +57,16 @@ module _ (shares b : List ℕ) where
       go true true = (λ e. absurd (false≢true (sym e)), λ h. absurd (false≢true (sym (h .1))))
       go true false = (λ _. (refl, refl), λ _. refl)
       go false low = (λ e. absurd (false≢true (sym e)), λ h. absurd (false≢true (h .0)))
+
+-- ---- rule 2 (N4)
+-- At flag 1 and q other than 5, previous stays as it was, whatever current is.
+pub previous-stands : (q : ℕ) → q ≢ 5 → (r : Cents) (s : Sums) → rule2 true (clearsAt q) r s .previous ≡ s .previous
+unfolding clearsAt
+previous-stands q other r s = simp (ne-eqb q 5 other, and-false)
+
+-- So an interval with flag 1 and q other than 5 leaves previous as rule 1 left it.
+pub interval-previous : (e : Event) (s : Direction) → e .flag ≡ true → place (e .n) ≢ 5 → sumsAfter e s .previous ≡ rule1 (e .n) (s .sums) .previous
+interval-previous e s flag other = rw flag (previous-stands (place (e .n)) other (e .residue) (rule1 (e .n) (s .sums)))
 
 -- ---- r of a record: by all six shares of the opening
 pub record-residue : (shares b : List ℕ) (d : ℕ) → residue shares b d ≡ residueOf (prices b) shares (lines b) d

@@ -69,7 +69,7 @@ module _ (set : Settings) (d : ℕ) where
       let begins = eqb (place (e .n)) 0 in
       let seen = anyNegative (cond begins [] (latestHalfHour es)) in
       rw (sum-cond (clearing (e ∷ es)) e (sinceClearing es), seen-next first e es t)
-      (invariant-rule2 (e .flag) (clearsAt (place (e .n))) (e .residue .0) seen (history-at-start begins (latestHalfHour es) (sum-of first es (t .2))))
+      (invariant-rule2 (e .flag) (place (e .n)) (e .residue .0) seen (history-at-start begins (latestHalfHour es) (sum-of first es (t .2))))
 
   module _ (below : T (negative (set .threshold .0))) (first : ℕ) where
     -- one interval, and all

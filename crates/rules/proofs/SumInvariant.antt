@@ -1,15 +1,15 @@
 -- The sum: what rules 1 and 2 keep is the sum since the latest clearing interval.
--- Nothing here reads the number of an interval, and nothing opens `clearsAt`.
+-- Of an interval's number its place alone is read, and only where rule 2 is set beside the history: at flag 1 both clear at q = 5 alone.
 -- Assumes nothing.
 use mathlib.Core.Path.{_≡_, refl, sym, ap, _∙_, subst}
-use mathlib.Core.Bool.{Bool, true, false, not, cond, _&&_, _||_}
+use mathlib.Core.Bool.{Bool, true, false, not, cond, _&&_, _||_, and-false}
 use Prim.Native.Nat.{ℕ, zero, suc, _+_}
-use lib.Dec.{T}
+use lib.Dec.{T, eqb}
 use lib.IntN.{ℤ, pos, negsuc, _+ℤ_, +ℤ-assoc, +ℤ-idr, +ℤ-idl, pos-ne-negsuc}
 use Rattle.signed.specs.Range.{negative}
 use Rattle.units.specs.Units.{cents, lowerOfZero}
 use Rattle.rules.specs.declared.Sums.{Sums}
-use Rattle.rules.specs.Interval.{noSums, atHalfHourStart, clearedIfZero, rule2, amount}
+use Rattle.rules.specs.Interval.{clearsAt, noSums, atHalfHourStart, clearedIfZero, rule2, amount}
 
 -- not above zero
 pub data NonPos : ℤ → Type 0 where
@@ -43,7 +43,7 @@ invariant-fresh = record { total = refl; old = none; below = none; quiet = λ _.
 
 -- the sum after one interval more
 abbrev pub sumNext : Bool → Bool → ℤ → Bool → ℤ → ℤ
-sumNext flag clears r seen sum = cond (not flag || (not seen && clears)) (pos 0) (sum +ℤ low r)
+sumNext flag closes r seen sum = cond (not flag || (closes && not seen)) (pos 0) (sum +ℤ low r)
 
 -- Rule 1: afterwards the current is that of this interval's half-hour, in which nothing negative is seen if it begins now.
 pub invariant-at-start : (begins : Bool) {sum : ℤ} {seen : Bool} {s : Sums} → SumInvariant sum seen s → SumInvariant sum (cond begins false seen) (atHalfHourStart begins s)
@@ -69,12 +69,17 @@ mild false false none b m = record { total = b .total ∙ sym (+ℤ-idr _); old 
 mild true true none b m = record { total = ap (λ (z : ℤ). z +ℤ pos 0) (sym (b .spent tt refl)) ∙ b .total ∙ sym (+ℤ-idr _); old = none; below = none; quiet = λ f. absurd f; spent = λ _ _. refl }
 mild false true none b m = record { total = b .total ∙ sym (+ℤ-idr _); old = b .old; below = none; quiet = λ f. absurd f; spent = b .spent }
 mild clears false (some k) b m = absurd (pos-ne-negsuc 0 k (sym (b .quiet tt)))
-mild clears true {p} (some k) b m = busy clears p m (b .old) (+ℤ-idr (negsuc k)) (ap (λ (z : ℤ). p +ℤ z) (+ℤ-idr (negsuc k)) ∙ b .total ∙ sym (+ℤ-idr _))
+mild clears true {p} (some k) b m = rw (and-false clears) (busy clears p m (b .old) (+ℤ-idr (negsuc k)) (ap (λ (z : ℤ). p +ℤ z) (+ℤ-idr (negsuc k)) ∙ b .total ∙ sym (+ℤ-idr _)))
 
--- Rule 2.
-pub invariant-rule2 : (flag clears : Bool) (r : ℤ) (seen : Bool) {sum : ℤ} {s : Sums} → SumInvariant sum seen s → SumInvariant (sumNext flag clears r (negative r || seen) sum) (negative r || seen) (rule2 flag clears (cents r) s)
-invariant-rule2 false clears r seen b = record { total = refl; old = none; below = none; quiet = λ _. refl; spent = λ _ _. refl }
-invariant-rule2 true clears (pos k) seen {s = s} b = mild clears seen (b .below) b (s .net .0 +ℤ pos k)
-invariant-rule2 true clears (negsuc k) seen {s = s} b =
+-- Rule 2 and the history, where both clear or neither does.
+invariant-alike : (flag clears : Bool) (r : ℤ) (seen : Bool) {sum : ℤ} {s : Sums} → SumInvariant sum seen s → SumInvariant (sumNext flag clears r (negative r || seen) sum) (negative r || seen) (rule2 flag clears (cents r) s)
+invariant-alike false clears r seen b = record { total = refl; old = none; below = none; quiet = λ _. refl; spent = λ _ _. refl }
+invariant-alike true clears (pos k) seen {s = s} b = mild clears seen (b .below) b (s .net .0 +ℤ pos k)
+invariant-alike true clears (negsuc k) seen {s = s} b =
     let l = less (b .below) k in
-    busy clears (s .previous .0) (s .net .0 +ℤ negsuc k) (b .old) (l .1) (sym (+ℤ-assoc (s .previous .0) (s .current .0) (negsuc k)) ∙ ap (λ (z : ℤ). z +ℤ negsuc k) (b .total))
+    rw (and-false clears) (busy clears (s .previous .0) (s .net .0 +ℤ negsuc k) (b .old) (l .1) (sym (+ℤ-assoc (s .previous .0) (s .current .0) (negsuc k)) ∙ ap (λ (z : ℤ). z +ℤ negsuc k) (b .total)))
+
+-- Rule 2 at place q, beside a history that at flag 1 clears at q = 5 alone.
+pub invariant-rule2 : (flag : Bool) (q : ℕ) (r : ℤ) (seen : Bool) {sum : ℤ} {s : Sums} → SumInvariant sum seen s → SumInvariant (sumNext flag (eqb q 5) r (negative r || seen) sum) (negative r || seen) (rule2 flag (clearsAt q) (cents r) s)
+unfolding clearsAt
+invariant-rule2 flag q r seen b = invariant-alike flag (eqb q 5) r seen b

@@ -1,4 +1,4 @@
--- Document 01, "Figures to prove (P)": one table about the definitions.
+-- Document 01, "Figures to prove (P)", and an example of N4: one table about the definitions.
 use mathlib.Core.Bool.{Bool, true, false}
 use mathlib.Core.List.{List, [], _∷_, _++_, map}
 use mathlib.Core.Path.{_≡_}
@@ -12,12 +12,12 @@ use Rattle.units.specs.Units.{cents, hundredths, grains}
 use Rattle.rules.specs.declared.Line.{Line}
 use Rattle.rules.specs.declared.Event.{Event}
 use Rattle.rules.specs.declared.Row.{Row}
-use Rattle.rules.specs.declared.Period.the-variants.{Held}
+use Rattle.rules.specs.declared.Period.the-variants.{None, Held}
 use Rattle.rules.specs.declared.Outcome.the-variants.{Accepted}
 use Rattle.rules.specs.Market.{ofDirections}
 use Rattle.rules.specs.Residue.{intervalLine, preDispatchLine, rounded, residueOf}
-use Rattle.rules.specs.Interval.{settings, reached, band, stepFor, offsetFor, clampFrom, flagOf}
-use Rattle.rules.specs.History.{stateAfter}
+use Rattle.rules.specs.Interval.{settings, amount, reached, band, stepFor, offsetFor, clampFrom, flagOf}
+use Rattle.rules.specs.History.{sumSince, stateAfter}
 use Rattle.rules.specs.Record.{residue}
 use Rattle.rules.specs.Refusal.{intervalOutcome}
 use Rattle.rules.specs.Tracker.{rowAnswer, run}
@@ -54,18 +54,22 @@ theRecord =
 abbrev pub theRow : Row
 theRow = rowAnswer (run (record { first = 0; shares = halves }) (theRecord ∷ [])) 2 .row
 
--- Interval n with residue r: flag 1, no estimate, no review, unbound.
-abbrev pub at : ℕ → ℤ → Event
-at n r = record {
+-- Interval n with residue r, under review or not: flag 1, no estimate, unbound.
+abbrev pub reviewedAt : Bool → ℕ → ℤ → Event
+reviewedAt review n r = record {
   n = n;
   flag = true;
   residue = cents r;
   next = cents (pos 0);
-  review = false;
+  review = review;
   status = 0;
   blocked = false;
   target = hundredths (pos 0);
 }
+
+-- The same without review.
+abbrev pub at : ℕ → ℤ → Event
+at n r = reviewedAt false n r
 
 -- Intervals from 6 on, of which the last is the first that reaches.
 abbrev pub until8 : List Event
@@ -73,6 +77,23 @@ until8 = at 8 (minus 10000000) ∷ at 7 (pos 0) ∷ at 6 (pos 0) ∷ []
 
 abbrev pub until11 : List Event
 until11 = at 11 (minus 10000000) ∷ at 10 (pos 0) ∷ at 9 (pos 0) ∷ at 8 (pos 0) ∷ at 7 (pos 0) ∷ at 6 (pos 0) ∷ []
+
+-- A half-hour under review that comes to -10,000,000; then a mild one without review: up to its start, to all of it but the close, and to its close.
+abbrev pub badHalfHour : List Event
+badHalfHour = map (λ n. reviewedAt true n (minus 2000000)) (5 ∷ 4 ∷ 3 ∷ 2 ∷ 1 ∷ []) ++ (reviewedAt true 0 (pos 0) ∷ [])
+
+abbrev pub mildStart : List Event
+mildStart = at 6 (pos 0) ∷ badHalfHour
+
+abbrev pub mildButClose : List Event
+mildButClose = map (λ n. at n (pos 0)) (10 ∷ 9 ∷ 8 ∷ 7 ∷ []) ++ mildStart
+
+abbrev pub mildHalfHour : List Event
+mildHalfHour = at 11 (pos 0) ∷ mildButClose
+
+-- The amount of direction 0 after these intervals.
+abbrev pub amountAfter : List Event → Cents
+amountAfter es = amount (stateAfter settings 0 es .sums)
 
 -- The step of a direction at net.
 abbrev pub stepAt : ℕ → ℤ → Hundredths
@@ -117,3 +138,7 @@ pub record Figures : Type 0 where
   pub P11 : clampFrom (hundredths (pos 5000)) (hundredths (minus 10000)) (offsetFor settings 0) ≡ hundredths (pos 2000)
   -- P12 loop sum 0: flag 0; -1: flag 1.
   pub P12 : (loopFlags (pos 0) ≡ replicate 6 false) × (loopFlags (minus 1) ≡ replicate 6 true)
+  -- N4 a mild start clears nothing: the old sum stands, and a period may open there. It stands up to the half-hour's close, which clears it.
+  pub N4-opens : (stateAfter settings 0 badHalfHour .period ≡ None) × (stateAfter settings 0 mildStart .period ≡ Held 7 17 false)
+  pub N4-stands : (amountAfter mildButClose ≡ cents (minus 10000000)) × (sumSince mildButClose ≡ cents (minus 10000000))
+  pub N4-cleared : (amountAfter mildHalfHour ≡ cents (pos 0)) × (sumSince mildHalfHour ≡ cents (pos 0))

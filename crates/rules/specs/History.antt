@@ -13,7 +13,7 @@ use Rattle.rules.specs.declared.Event.{Event}
 use Rattle.rules.specs.declared.Period.{Period}
 use Rattle.rules.specs.declared.Period.the-variants.{None, Held}
 use Rattle.rules.specs.declared.Direction.{Direction}
-use Rattle.rules.specs.Interval.{Settings, halfHour, place, clearsAt, atThreshold, fresh, stepOf}
+use Rattle.rules.specs.Interval.{Settings, halfHour, place, atThreshold, fresh, stepOf}
 
 -- The intervals of half-hour h, and those of the latest interval's half-hour up to and including itself.
 unfoldable pub inHalfHour : ℕ → List Event → List Event
@@ -28,10 +28,10 @@ unfoldable pub anyNegative : List Event → Bool
 anyNegative [] = false
 anyNegative (e ∷ es) = negative (e .residue .0) || anyNegative es
 
--- A clearing interval of a direction has flag 0, or no negative r in its half-hour up to and including itself.
+-- A clearing interval of a direction is one with flag 0, or one with q = 5 and no negative r in its half-hour (N4).
 unfoldable pub clearing : List Event → Bool
 clearing [] = false
-clearing (e ∷ es) = not (e .flag) || (not (anyNegative (latestHalfHour (e ∷ es))) && clearsAt (place (e .n)))
+clearing (e ∷ es) = not (e .flag) || (eqb (place (e .n)) 5 && not (anyNegative (latestHalfHour (e ∷ es))))
 
 -- A direction's sum after an accepted interval adds its negative r over the accepted intervals after the latest clearing one, up to
 -- and including that interval; the clearing one itself adds nothing, and if that interval is clearing the sum is 0.

@@ -1,4 +1,4 @@
--- What document 01 means, in its order.
+-- What document 01 means, in its order, with the requests of document 02 that changed it, marked as "(N4)".
 pub mod Market
 pub mod Residue
 pub mod Interval

@@ -30,11 +30,11 @@ pub fn rule1(n: u32, s: Sums) -> Sums
     s
 }
 
-// The places of a half-hour at which a current of 0 clears what came before: every one.
+// At flag 1, the place at which previous becomes 0 for a zero current: the half-hour's close, q = 5 (N4).
 pub fn clears_at(n: u32) -> bool
     ensures { λ r. ⌜ r ≡ clearsAt (place n) ⌝ }
 {
-    true
+    n % 6 == 5
 }
 
 // Current grows by the lower of r and 0, net by r.
@@ -55,7 +55,7 @@ fn grown(r: Cents, s: Sums) -> Sums
     }
 }
 
-// If current is then 0, previous becomes 0.
+// If current is then 0, previous becomes 0, where it clears.
 fn cleared_if_zero(clears: bool, s: Sums) -> Sums
     ensures { λ r. ⌜ r ≡ clearedIfZero clears s ⌝ }
 {

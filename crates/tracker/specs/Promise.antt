@@ -38,7 +38,6 @@ unfoldable pub use Rattle.rules.specs.Claim.{acceptCall, accepted, history, wor
 pub use Rattle.rules.specs.Claim.{awaitedAfter, awaitedFrom, workedFrom}
 -- the words of demand 3 about a history, and the claim with its parts
 pub use Rattle.rules.specs.Interval.{Settings, settings, place, halfHour, atThreshold}
-unfoldable pub use Rattle.rules.specs.Interval.{clearsAt}
 unfoldable pub use Rattle.rules.specs.History.{inHalfHour, latestHalfHour, anyNegative, clearing, sinceClearing, sumNegative}
 pub use Rattle.rules.specs.History.{sumSince, estimate, underReview, gotThere, GotThereWithin, liesIn}
 pub use Rattle.rules.specs.Claim.{DirectionClaim, ClaimOf, Claim}

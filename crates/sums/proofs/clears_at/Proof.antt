@@ -1,4 +1,4 @@
--- `sums::clears_at` meets its contract: every place clears.
+-- `sums::clears_at` meets its contract: its test is the definition's.
 -- Assumes nothing.
 use mathlib.Core.Path.{refl}
 use Rattle.rules.specs.Interval.{clearsAt}
