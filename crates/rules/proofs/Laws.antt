@@ -1,5 +1,5 @@
--- Laws that pin residue, loop flag and next from outside, since they serve the calls and the claim alike, so that neither would show a wrong
--- one; and rule 2's clearing.
+-- Laws that pin half-hour and place, residue, loop flag and next from outside, since they serve the calls and the claim alike, so that neither
+-- would show a wrong one; and rule 2's clearing.
 -- Assumes nothing.
 use mathlib.Core.Path.{_≡_, refl, sym, ap, ap₂, _∙_}
 use mathlib.Core.Bool.{Bool, true, false, not, cond, _&&_, Bool·beq, false≢true, and-false}
@@ -23,8 +23,12 @@ use Rattle.rules.specs.declared.Sums.{Sums}
 use Rattle.rules.specs.declared.Direction.{Direction}
 use Rattle.rules.specs.Market.{corridorOf, reverse}
 use Rattle.rules.specs.Residue.{grainsOf, rounded, price, line, corridorGrains, corridorFlow, residueOf}
-use Rattle.rules.specs.Interval.{place, clearsAt, rule1, rule2, flagOf, nextOf, sumsAfter}
+use Rattle.rules.specs.Interval.{halfHour, place, clearsAt, rule1, rule2, flagOf, nextOf, sumsAfter}
 use Rattle.rules.specs.Record.{recordNumber, operating, present, prices, lines, preDispatchPrices, preDispatchLines, residue, preDispatchResidue, flag, next}
+
+-- ---- Interval n = 6h+q, q from 0 to 5.
+pub half-hours : (n : ℕ) → (n ≡ 6 * halfHour n + place n) × (place n < 6)
+half-hours n = (omega arith, omega arith)
 
 -- ---- the loop flag
 -- 1 for directions 0 and 1, always;

@@ -7,7 +7,7 @@ use mathlib.Core.List.{List, [], _∷_}
 use Prim.Native.Nat.{ℕ, suc, _<_}
 use native.Mathlib.Omega.{arith}
 use lib.Dec.{T, eqb}
-use lib.IntN.{ℤ, pos, _+ℤ_}
+use lib.IntN.{ℤ, pos, negsuc, _+ℤ_, +ℤ-idr}
 use lib.ListN.{length, drop}
 use lib.Signed.{ltZ}
 use mir.Facts.{and-yes, yes-and}
@@ -24,10 +24,19 @@ use Rattle.rules.proofs.PeriodInvariant.{Span, T-true, advance}
 use Rattle.rules.proofs.Consecutive.{nextNumber, InTurn, latest-half-hour}
 
 -- ---- the sum
+-- One interval more adds the lower of its r and 0: that is its negative r, or nothing.
+pub sum-grows : (e : Event) (es : List Event) → sumNegative (e ∷ es) .0 ≡ sumNegative es .0 +ℤ low (e .residue .0)
+unfolding sumNegative
+sum-grows e es = go (e .residue .0) refl
+  where
+    go : (r : ℤ) → e .residue .0 ≡ r → sumNegative (e ∷ es) .0 ≡ sumNegative es .0 +ℤ low r
+    go (pos k) is = rw is (sym (+ℤ-idr _))
+    go (negsuc k) is = rw is
+
 sum-cond : (c : Bool) (e : Event) (es : List Event) → sumNegative (cond c [] (e ∷ es)) .0 ≡ cond c (pos 0) (sumNegative es .0 +ℤ low (e .residue .0))
 unfolding sumNegative
 sum-cond true e es = refl
-sum-cond false e es = refl
+sum-cond false e es = sum-grows e es
 
 history-at-start : (begins : Bool) (es : List Event) {sum : ℤ} {s : Sums} → SumInvariant sum (anyNegative es) s → SumInvariant sum (anyNegative (cond begins [] es)) (atHalfHourStart begins s)
 unfolding anyNegative

@@ -36,7 +36,7 @@ use Rattle.rules.proofs.ResidueBounds.{residue-size, lower-size, cond-s
 use Rattle.rules.proofs.SumInvariant.{NonPos, none, some, nonpos-plus, nonpos-low, SumInvariant}
 use Rattle.rules.proofs.PeriodInvariant.{Span}
 use Rattle.rules.proofs.Consecutive.{nextNumber, InTurn}
-use Rattle.rules.proofs.OneDirection.{sum-of, span-of, Got}
+use Rattle.rules.proofs.OneDirection.{sum-grows, sum-of, span-of, Got}
 use Rattle.rules.proofs.Replay.{Replays, AllSound, shownAfter, first-early, next-is}
 use Rattle.rules.proofs.Came.{replayed}
 
@@ -64,7 +64,7 @@ sum-size R (e ∷ es) s = go (clearing (e ∷ es)) (sum-size R es (s .1))
     go true k = (none, omega arith)
     go false k =
         let l = nonpos-low (e .residue .0) in
-        (nonpos-plus (k .0) l, omega (arith, abs-plus (k .0) l, lower-size (e .residue), s .0, k .1, suc-mul (length es) R))
+        rw (sum-grows e (sinceClearing es)) (nonpos-plus (k .0) l, omega (arith, abs-plus (k .0) l, lower-size (e .residue), s .0, k .1, suc-mul (length es) R))
 
 -- rules 1 and 2 let net grow by r at most
 net-at-start : (b : Bool) (s : Sums) → natAbs (atHalfHourStart b s .net .0) ≤ natAbs (s .net .0)

@@ -1,4 +1,4 @@
--- How large the numbers of a tracker get: they keep the code from overflowing, and a line of the listing short.
+-- How large the numbers of a tracker and of a row get.
 use mathlib.Core.Bool.{false}
 use mathlib.Core.Path.{_≡_}
 use Prim.Native.Nat.{ℕ, suc, _+_, _*_, _≤_, _<_}

@@ -6,14 +6,15 @@ use Prim.Native.Nat.{ℕ, _<_}
 use lib.Dec.{T, eqb, leb}
 use lib.IntN.{pos}
 use lib.ListN.{length, drop}
+use lib.Signed.{leZ}
 use Rattle.signed.specs.Range.{negative}
 use Rattle.units.specs.declared.Cents.{Cents}
-use Rattle.units.specs.Units.{cents, _+ᶜ_, lowerOfZero}
+use Rattle.units.specs.Units.{cents, _+ᶜ_}
 use Rattle.rules.specs.declared.Event.{Event}
 use Rattle.rules.specs.declared.Period.{Period}
 use Rattle.rules.specs.declared.Period.the-variants.{None, Held}
 use Rattle.rules.specs.declared.Direction.{Direction}
-use Rattle.rules.specs.Interval.{Settings, halfHour, place, atThreshold, fresh, stepOf}
+use Rattle.rules.specs.Interval.{Settings, halfHour, place, fresh, stepOf}
 
 -- The intervals of half-hour h, and those of the latest interval's half-hour up to and including itself.
 unfoldable pub inHalfHour : ℕ → List Event → List Event
@@ -41,7 +42,7 @@ sinceClearing (e ∷ es) = cond (clearing (e ∷ es)) [] (e ∷ sinceClearing es
 
 unfoldable pub sumNegative : List Event → Cents
 sumNegative [] = cents (pos 0)
-sumNegative (e ∷ es) = sumNegative es +ᶜ lowerOfZero (e .residue)
+sumNegative (e ∷ es) = cond (negative (e .residue .0)) (sumNegative es +ᶜ e .residue) (sumNegative es)
 
 abbrev pub sumSince : List Event → Cents
 sumSince es = sumNegative (sinceClearing es)
@@ -57,7 +58,7 @@ underReview (e ∷ es) = e .review
 
 -- An interval got there if sum plus estimate after it are at or below the threshold of rule 3.
 abbrev pub gotThere : Settings → List Event → Bool
-gotThere set es = atThreshold set (sumSince es +ᶜ estimate es)
+gotThere set es = leZ ((sumSince es +ᶜ estimate es) .0) (set .threshold .0)
 
 -- One of the last k accepted intervals (with fewer, of all) got there without review: sum and estimate as they stood after it.
 pub record GotThereWithin (k : ℕ) (set : Settings) (es : List Event) : Type 0 where

@@ -8,7 +8,7 @@ use Prim.Native.Nat.{ℕ, _<_}
 pub use Rattle.signed.specs.Range.{minus, negative}
 pub use Rattle.units.specs.declared.Cents.{Cents}
 pub use Rattle.units.specs.declared.Hundredths.{Hundredths}
-pub use Rattle.units.specs.Units.{cents, hundredths, _+ᶜ_, lowerOfZero}
+pub use Rattle.units.specs.Units.{cents, hundredths, _+ᶜ_}
 -- what the calls take and answer
 pub use Rattle.rules.specs.declared.Tracker.{Tracker}
 pub use Rattle.rules.specs.declared.Row.{Row}
@@ -37,7 +37,7 @@ pub use Rattle.rules.specs.Tracker.{row}
 unfoldable pub use Rattle.rules.specs.Claim.{acceptCall, accepted, history, workedRow}
 pub use Rattle.rules.specs.Claim.{awaitedAfter, awaitedFrom, workedFrom}
 -- the words of demand 3 about a history, and the claim with its parts
-pub use Rattle.rules.specs.Interval.{Settings, settings, place, halfHour, atThreshold}
+pub use Rattle.rules.specs.Interval.{Settings, settings, place, halfHour}
 unfoldable pub use Rattle.rules.specs.History.{inHalfHour, latestHalfHour, anyNegative, clearing, sinceClearing, sumNegative}
 pub use Rattle.rules.specs.History.{sumSince, estimate, underReview, gotThere, GotThereWithin, liesIn}
 pub use Rattle.rules.specs.Claim.{DirectionClaim, ClaimOf, Claim}
