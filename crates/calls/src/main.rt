@@ -144,7 +144,7 @@ fn print_place(journal: &[u8], records: &[u8]) {
 
 fn print_found(journal: &[u8]) {
     let found = journal::read(journal);
-    let records = journal::found_records(journal, found);
+    let records = journal::records(journal);
     match found {
         Found::Journal { count, first, last } => {
             print_number(0, b' ');

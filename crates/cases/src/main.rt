@@ -52,7 +52,7 @@ fn print_rows_of(bytes: &[u8]) {
         b"unbound,violated,blocked,flag,clamp,notice\n",
     );
     let found = journal::read(bytes);
-    let records = journal::found_records(bytes, found);
+    let records = journal::records(bytes);
     let Found::Journal {
         count,
         first,

@@ -8,8 +8,8 @@ ghost use mathlib.Core.Path.{_≡_};
 ghost use Prim.Native.Nat.{_+_, _*_, _<_, _≤_};
 ghost use lib.ListN.{length};
 ghost use Rattle.words.specs.Buffer.{over};
-ghost use Rattle.journal_rules.specs.Journal.{recordLength, trailerLength, numberAt, firstNumber, lastNumber, inOrder, trailerWord, part, badLength, badTrailer, badNumbers, badRecords, readOutcome, readOf, recordsOf, journalOf, writeOutcome};
-ghost use Rattle.journal_rules.specs.Internal.{Shaped, Whole};
+ghost use Rattle.journal_rules.specs.Journal.{recordLength, trailerLength, numberAt, firstNumber, lastNumber, inOrder, trailerWord, part, badLength, badTrailer, badNumbers, badRecords, readOutcome, recordsOf, journalOf, writeOutcome};
+ghost use Rattle.journal_rules.specs.Internal.{Shaped, countedRecords, Whole};
 ghost use Rattle.journal_rules.specs.Promise.{ReadPromise, WritePromise};
 
 // The length of a trailer.
@@ -170,27 +170,33 @@ pub fn read(journal: &[u8]) -> Found
     }
 }
 
-// The records of a journal that has been read: the part of it that holds them; of length 0 where the read was refused. It is for crates
-// that have what the read gave, and judges nothing again; outside, `records` is offered.
-pub fn found_records(journal: &[u8], found: Found) -> &[u8]
-    requires { ⌜ found ≡ readOf (now journal) ⌝ }
-    ensures { λ r. ⌜ now r ≡ recordsOf (now (journal .entry)) ⌝ }
+// The records by what a read of the journal gave, so that it is not judged again: as many as were counted, and nothing where they do not fit
+// before a trailer, or beside a refusal.
+pub fn counted_records(journal: &[u8], found: Found) -> &[u8]
+    ensures { λ r. ⌜ now r ≡ countedRecords found (now (journal .entry)) ⌝ }
 {
-    match found {
-        Found::Journal {
-            count: _,
-            first: _,
-            last: _,
-        } => part(journal),
-        Found::Refused(_) => &journal[..0],
+    let Found::Journal {
+        count,
+        first: _,
+        last: _,
+    } = found
+    else {
+        return &journal[..0];
+    };
+    let distance = RECORD * count as usize;
+    if journal.len() < distance + TRAILER {
+        return &journal[..0];
     }
+    let end = journal.len() - TRAILER;
+    let start = end - distance;
+    &journal[start..end]
 }
 
 // The records of a journal, as the part of it that holds them; of length 0 where a read is refused.
 pub fn records(journal: &[u8]) -> &[u8]
     ensures { λ r. ⌜ now r ≡ recordsOf (now (journal .entry)) ⌝ }
 {
-    found_records(journal, read(journal))
+    counted_records(journal, read(journal))
 }
 
 fn bad_records(records: &[u8]) -> bool

@@ -1,19 +1,19 @@
 -- What a journal that a read accepts, and records that a write accepts, have passed.
 -- Assumes nothing.
-use mathlib.Core.Path.{_≡_, refl}
+use mathlib.Core.Path.{_≡_, refl, sym}
 use mathlib.Core.Bool.{true, false, not}
 use mathlib.Core.List.{List}
 use Prim.Native.Nat.{ℕ, _+_, _*_, _%_, _≤_}
 use native.Mathlib.Omega.{arith}
-use borrow.Author.Tests.{ltb-false, eqb-true, not-false}
+use borrow.Author.Tests.{ltb-false, le-ltb, eqb-true, not-false}
 use lib.Dec.{ltb, eqb}
 use lib.ListN.{length, length-take, length-drop}
 use Rattle.tracker.proofs.Promise.{both-false}
 pub use Rattle.tracker.proofs.Promise.{accepted-iff}
 use Rattle.journal_rules.specs.declared.Found.{Found}
 use Rattle.journal_rules.specs.declared.Found.the-variants.{Journal, Refused}
-use Rattle.journal_rules.specs.Journal.{Outcome, Accepted, RefusedBy, recordLength, longestPreface, mostRecords, trailerLength, longestJournal, count, distance, first, last, preface, part, recordCount, firstNumber, lastNumber, inOrder, badLength, badTrailer, badNumbers, readConditions, readOutcome, foundBy, readOf, recordsOf, badRecords, writeConditions, writeOutcome}
-use Rattle.journal_rules.specs.Internal.{Shaped, Whole}
+use Rattle.journal_rules.specs.Journal.{Outcome, Accepted, RefusedBy, recordLength, longestPreface, mostRecords, trailerLength, longestJournal, count, distance, first, last, preface, part, recordCount, firstNumber, lastNumber, inOrder, badLength, badTrailer, badNumbers, readConditions, readOutcome, foundBy, readOf, recordsBy, recordsOf, badRecords, writeConditions, writeOutcome}
+use Rattle.journal_rules.specs.Internal.{Shaped, countedRecords, Whole}
 use Rattle.journal_rules.proofs.Laws.{records-found}
 
 -- a test for another number that is not met
@@ -87,6 +87,18 @@ records-whole s = go (readOutcome s) refl
         let most = h .most in
         rw (records-found s e) (record { whole = omega arith; few = omega arith })
     go (RefusedBy k) e = rw e (record { whole = refl; few = omega arith })
+
+-- the records by what a read gave are the journal's
+pub counted-records : (s : List ℕ) → countedRecords (readOf s) s ≡ recordsOf s
+unfolding readOf recordsOf part
+counted-records s = go (readOutcome s) refl
+  where
+    go : (o : Outcome) → readOutcome s ≡ o → countedRecords (foundBy o s) s ≡ recordsBy o s
+    go Accepted e =
+        let h = sound s e .shape in
+        let inside = h .inside in
+        rw (sym (h .back), le-ltb (length s) (distance s + trailerLength) inside)
+    go (RefusedBy k) e = refl
 
 -- ---- records
 pub record Writable (r : List ℕ) (room : ℕ) : Type 0 where

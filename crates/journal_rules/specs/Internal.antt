@@ -1,8 +1,13 @@
--- What the functions rely on once the length and the trailer have been tested, and once records have been.
+-- What the functions rely on once the length and the trailer have been tested, and once records have been; and the records by what a read
+-- gave. No promise cites this.
 use mathlib.Core.Path.{_≡_}
-use mathlib.Core.List.{List}
-use Prim.Native.Nat.{ℕ, _+_, _*_, _%_, _≤_}
-use lib.ListN.{length}
+use mathlib.Core.Bool.{cond}
+use mathlib.Core.List.{List, []}
+use Prim.Native.Nat.{ℕ, _+_, _*_, _-_, _%_, _≤_}
+use lib.Dec.{ltb}
+use lib.ListN.{length, take, drop}
+use Rattle.journal_rules.specs.declared.Found.{Found}
+use Rattle.journal_rules.specs.declared.Found.the-variants.{Journal, Refused}
 use Rattle.journal_rules.specs.Journal.{recordLength, mostRecords, trailerLength, recordCount, count, distance}
 
 -- the trailer points at records that are inside
@@ -11,6 +16,14 @@ pub record Shaped (s : List ℕ) : Type 0 where
   pub most : count s ≤ mostRecords
   pub back : distance s ≡ recordLength * count s
   pub inside : distance s + trailerLength ≤ length s
+
+-- By what a read gave: as many records as it counted, those that end at the trailer; nothing where there are not so many bytes, or on a
+-- refusal.
+abbrev pub countedRecords : Found → List ℕ → List ℕ
+countedRecords (Journal count first last) s =
+    let bytes = recordLength * count in
+    cond (ltb (length s) (bytes + trailerLength)) [] (take bytes (drop (length s - trailerLength - bytes) s))
+countedRecords (Refused k) s = []
 
 -- at most 288 whole records
 pub record Whole (r : List ℕ) : Type 0 where

@@ -226,7 +226,7 @@ fn body(journal: &[u8], out: &mut [u8], at: usize) -> usize
             count: _,
             first,
             last: _,
-        } => opened(first, journal::found_records(journal, found), out, at),
+        } => opened(first, journal::counted_records(journal, found), out, at),
         Found::Refused(number) => refused(number, out, at),
     }
 }

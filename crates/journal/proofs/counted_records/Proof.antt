@@ -1,26 +1,50 @@
--- `journal::found_records` meets its contract: the part, or nothing, as what the read gave says.
+-- `journal::counted_records` meets its contract: its test for room is the definition's, and so is the place.
 -- Assumes nothing.
-use mathlib.Core.Path.{_≡_, sym, ap, _∙_}
+use mathlib.Core.Path.{_≡_}
+use mathlib.Core.Bool.{true, false}
+use Prim.Native.Nat.{_+_, _*_, _-_}
+use native.Mathlib.Omega.{arith}
 use borrow.Author.Needs.{needs}
-use Rattle.journal_rules.specs.Journal.{Accepted, readOutcome, recordsOf}
-use Rattle.journal_rules.proofs.Accept.{sound, outcomeOf, read-as}
-use Rattle.journal.proofs.found_records.Statement.{statement}
-use Rattle.journal.proofs.found_records.Tie as tie
-
-accepted : (c : tie.After-enum-told) → readOutcome (c .before .before .before .args .journal .now) ≡ Accepted
-accepted c = read-as _ ∙ ap outcomeOf (sym (c .before .before .before .pre) ∙ c .enum-told .given .1)
-
-part-requires : tie.Need-part-requires
-part-requires c κs = sound _ (accepted c) .shape
-
-returns : tie.Need-returns
-unfolding recordsOf
-returns c = rw (accepted (c .before)) (c .part .ensures)
+use borrow.Author.Tests.{lt-ltb, le-ltb}
+use lib.Dec.{ltb}
+use lib.ListN.{length}
+use Rattle.journal_rules.specs.Journal.{recordLength, trailerLength}
+use Rattle.journal.proofs.counted_records.Statement.{statement}
+use Rattle.journal.proofs.counted_records.Tie as tie
 
 returns-2 : tie.Need-returns-2
-unfolding recordsOf
-returns-2 c = rw (read-as _ ∙ ap outcomeOf (sym (c .before .before .before .before .pre) ∙ c .before .enum-told2 .given .1))
+returns-2 c =
+    let k = c .before .before .before in
+    let s = k .before .before .args .journal .now in
+    let bytes = recordLength * k .found .given .0 .0 in
+    let short : ltb (length s) (bytes + trailerLength) ≡ true = lt-ltb (length s) (bytes + trailerLength) (omega arith) in
+    rw (k .found .given .1, short)
 
-pub found-records-spec : {M : Type 1} → statement M
-found-records-spec =
-    tie.close (tie.spec (λ c. search needs) part-requires (λ c. search needs) (λ c. search needs) returns returns-2)
+returns-3 : tie.Need-returns-3
+returns-3 c =
+    let k = c .before .before .before in
+    let s = k .before .before .args .journal .now in
+    let bytes = recordLength * k .found .given .0 .0 in
+    let room : ltb (length s) (bytes + trailerLength) ≡ false = le-ltb (length s) (bytes + trailerLength) (omega arith) in
+    let n : (length s - trailerLength) - ((length s - trailerLength) - bytes) ≡ bytes = omega arith in
+    rw (k .found .given .1, room, n)
+
+pub counted-records-spec : {M : Type 1} → statement M
+counted-records-spec =
+    tie.close
+    (tie.spec
+    (λ c. search needs)
+    (λ c. search needs)
+    (λ c. search needs)
+    (λ c. search needs)
+    (λ c. search needs)
+    (λ c. search needs)
+    (λ c. search needs)
+    (λ c. search needs)
+    returns-2
+    (λ c. search needs)
+    (λ c. search needs)
+    (λ c. search needs)
+    (λ c. search needs)
+    (λ c. search needs)
+    returns-3)

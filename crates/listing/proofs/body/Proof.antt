@@ -1,8 +1,10 @@
 -- `listing::body` meets its contract: what the read finds decides.
 -- Assumes nothing.
-use mathlib.Core.Path.{_≡_, sym, _∙_}
+use mathlib.Core.Path.{_≡_, sym, ap, _∙_}
+use Rattle.journal_rules.specs.declared.Found.{Found}
 use Rattle.journal_rules.specs.Journal.{recordsOf}
-use Rattle.journal_rules.proofs.Accept.{records-whole}
+use Rattle.journal_rules.specs.Internal.{countedRecords}
+use Rattle.journal_rules.proofs.Accept.{records-whole, counted-records}
 use Rattle.listing.specs.Listing.{endedBy, recordLines, bodyLines}
 use Rattle.listing.proofs.LinesByCase.{found, unread}
 use borrow.Author.Needs.{needs}
@@ -20,14 +22,20 @@ ends : (c : tie.After-found2)
     bodyLines (k .before .before .before .args .journal .now) ≡ endedBy (c .found2 .given .0 .0)
 ends c = let k = c .before .before in unread (k .before .before .before .args .journal .now) (k .read .result) (k .read .ensures .is) (c .found2 .given .1)
 
-found-records-requires : tie.Need-found-records-requires
-found-records-requires c κs = let f = c .before in sym (f .found .given .1) ∙ f .before .before .read .ensures .is
+-- the records counted by what the read gave are the journal's
+are-records : (c : tie.After-counted-records)
+    → let k = c .before .before in
+    c .counted-records .result .now ≡ recordsOf (k .before .before .before .before .before .args .journal .now)
+are-records c =
+    let k = c .before .before in
+    let s = k .before .before .before .before .before .args .journal .now in
+    c .counted-records .ensures ∙ ap (λ (f : Found). countedRecords f s) (sym (k .found .given .1) ∙ k .before .before .read .ensures .is) ∙ counted-records s
 
 opened-requires : tie.Need-opened-requires
 opened-requires c κs =
     let k = c .before .before .before in
     let s = k .before .before .before .before .before in
-    rw (c .before .found-records .ensures) (records-whole (s .args .journal .now) .whole, rw (goes k) at (s .pre))
+    rw (are-records (c .before)) (records-whole (s .args .journal .now) .whole, rw (goes k) at (s .pre))
 
 refused-requires : tie.Need-refused-requires
 refused-requires c κs = let k = c .before .before in rw (ends k) at (k .before .before .before .before .before .pre)
@@ -35,7 +43,7 @@ refused-requires c κs = let k = c .before .before in rw (ends k) at (k .before 
 returns : tie.Need-returns
 returns c =
     let k = c .before .before in
-    rw (goes (k .before .before .before .before)) (rw (k .before .before .found-records .ensures) at (k .opened .ensures))
+    rw (goes (k .before .before .before .before)) (rw (are-records (k .before .before)) at (k .opened .ensures))
 
 returns-2 : tie.Need-returns-2
 returns-2 c = let k = c .before .before in rw (ends (k .before .before .before)) (k .refused .ensures)
@@ -46,7 +54,7 @@ body-spec =
     (tie.spec
     (λ c κs. search needs)
     (λ c. search needs)
-    found-records-requires
+    (λ c κs. search needs)
     opened-requires
     (λ c. search needs)
     refused-requires
