@@ -170,8 +170,8 @@ pub fn read(journal: &[u8]) -> Found
     }
 }
 
-// The records by what a read of the journal gave, so that it is not judged again: as many as were counted, and nothing where they do not fit
-// before a trailer, or beside a refusal.
+// The records by what a read gave, without judging the journal again: as many as it counted, those that end at the trailer; of length 0 where
+// they and a trailer are longer than the journal, and on a refusal. For `listing`, which has read the journal; outside, `records` is offered.
 pub fn counted_records(journal: &[u8], found: Found) -> &[u8]
     ensures { λ r. ⌜ now r ≡ countedRecords found (now (journal .entry)) ⌝ }
 {

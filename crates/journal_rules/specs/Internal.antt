@@ -1,5 +1,5 @@
--- What the functions rely on once the length and the trailer have been tested, and once records have been; and the records by what a read
--- gave. No promise cites this.
+-- A trailer that points at records inside the journal, the records by what a read gave, and at most 288 whole records. No promise cites
+-- this.
 use mathlib.Core.Path.{_≡_}
 use mathlib.Core.Bool.{cond}
 use mathlib.Core.List.{List, []}
@@ -17,8 +17,8 @@ pub record Shaped (s : List ℕ) : Type 0 where
   pub back : distance s ≡ recordLength * count s
   pub inside : distance s + trailerLength ≤ length s
 
--- By what a read gave: as many records as it counted, those that end at the trailer; nothing where there are not so many bytes, or on a
--- refusal.
+-- By what a read gave: as many records as it counted, those that end at the trailer; nothing where they and a trailer are longer than
+-- the journal, or on a refusal.
 abbrev pub countedRecords : Found → List ℕ → List ℕ
 countedRecords (Journal count first last) s =
     let bytes = recordLength * count in

@@ -1,16 +1,16 @@
--- Laws that pin half-hour and place, residue, loop flag and next from outside, since they serve the calls and the claim alike, so that neither
+-- Laws that pin half-hour and place, flags, residue, loop flag and next from outside, since they serve the calls and the claim alike, so that neither
 -- would show a wrong one; and rule 2's clearing.
 -- Assumes nothing.
 use mathlib.Core.Path.{_≡_, refl, sym, ap, ap₂, _∙_}
 use mathlib.Core.Bool.{Bool, true, false, not, cond, _&&_, Bool·beq, false≢true, and-false}
-use mathlib.Core.List.{List}
+use mathlib.Core.List.{List, [], _∷_, _++_, map}
 use mathlib.Core.Logic.{_↔_, _≢_}
 use Prim.Native.Nat.{ℕ, _+_, _*_, _%_, _≤_, _<_}
 use native.Mathlib.Omega.{arith}
 use borrow.Author.Tests.{le-leb, lt-leb, eq-eqb, ne-eqb}
 use lib.Dec.{eqb}
 use lib.IntN.{ℤ, pos, negsuc, _+ℤ_, _-ℤ_, _*ℤ_, +ℤ-idl, +ℤ-idr, zero-*ℤ}
-use lib.ListN.{getD}
+use lib.ListN.{getD, replicate}
 use lib.Signed.{_≤ℤ_}
 use Rattle.signed.specs.Range.{negative}
 use Rattle.units.specs.declared.Cents.{Cents}
@@ -21,14 +21,30 @@ use Rattle.rules.specs.declared.Line.{Line}
 use Rattle.rules.specs.declared.Event.{Event}
 use Rattle.rules.specs.declared.Sums.{Sums}
 use Rattle.rules.specs.declared.Direction.{Direction}
-use Rattle.rules.specs.Market.{corridorOf, reverse}
+use Rattle.rules.specs.Market.{corridorOf, reverse, ofDirections}
 use Rattle.rules.specs.Residue.{grainsOf, rounded, price, line, corridorGrains, corridorFlow, residueOf}
 use Rattle.rules.specs.Interval.{halfHour, place, clearsAt, rule1, rule2, flagOf, nextOf, sumsAfter}
-use Rattle.rules.specs.Record.{recordNumber, operating, present, prices, lines, preDispatchPrices, preDispatchLines, residue, preDispatchResidue, flag, next}
+use Rattle.rules.specs.Record.{recordNumber, reviewed, operating, present, status, blocked, prices, lines, preDispatchPrices, preDispatchLines, residue, preDispatchResidue, flag, next}
 
 -- ---- Interval n = 6h+q, q from 0 to 5.
 pub half-hours : (n : ℕ) → (n ≡ 6 * halfHour n + place n) × (place n < 6)
 half-hours n = (omega arith, omega arith)
+
+-- ---- flags and statuses, bit by bit
+-- Of a flags byte x: review, loop operating, pre-dispatch present. They are bits 0, 1 and 2.
+abbrev flagsIn : ℕ → List Bool
+flagsIn x = let b = replicate 4 0 ++ (x ∷ []) in reviewed b ∷ operating b ∷ present b ∷ []
+
+pub flag-bits : map flagsIn (1 ∷ 2 ∷ 4 ∷ []) ≡ (true ∷ false ∷ false ∷ []) ∷ (false ∷ true ∷ false ∷ []) ∷ (false ∷ false ∷ true ∷ []) ∷ []
+flag-bits = refl
+
+-- Of a status byte x, in each direction: 0 unbound, 1 bound, 2 violated, plus 4 if blocked.
+abbrev statesIn : ℕ → List (ℕ × Bool)
+statesIn x = ofDirections (λ d. let b = replicate (5 + d) 0 ++ (x ∷ []) in (status b d, blocked b d))
+
+pub status-bits : map statesIn (0 ∷ 1 ∷ 2 ∷ 4 ∷ 5 ∷ 6 ∷ [])
+    ≡ map (replicate 8) ((0, false) ∷ (1, false) ∷ (2, false) ∷ (0, true) ∷ (1, true) ∷ (2, true) ∷ [])
+status-bits = refl
 
 -- ---- the loop flag
 -- 1 for directions 0 and 1, always;

@@ -78,16 +78,19 @@ until8 = at 8 (minus 10000000) ∷ at 7 (pos 0) ∷ at 6 (pos 0) ∷ []
 abbrev pub until11 : List Event
 until11 = at 11 (minus 10000000) ∷ at 10 (pos 0) ∷ at 9 (pos 0) ∷ at 8 (pos 0) ∷ at 7 (pos 0) ∷ at 6 (pos 0) ∷ []
 
--- A half-hour under review that comes to -10,000,000; then a mild one without review: up to its start, to all of it but the close, and to its close.
+-- A half-hour under review whose negative r come to -10,000,000;
 abbrev pub badHalfHour : List Event
 badHalfHour = map (λ n. reviewedAt true n (minus 2000000)) (5 ∷ 4 ∷ 3 ∷ 2 ∷ 1 ∷ []) ++ (reviewedAt true 0 (pos 0) ∷ [])
 
+-- then a mild one, without negative r and without review: its first interval;
 abbrev pub mildStart : List Event
 mildStart = at 6 (pos 0) ∷ badHalfHour
 
+-- all of it but its close;
 abbrev pub mildButClose : List Event
 mildButClose = map (λ n. at n (pos 0)) (10 ∷ 9 ∷ 8 ∷ 7 ∷ []) ++ mildStart
 
+-- all of it.
 abbrev pub mildHalfHour : List Event
 mildHalfHour = at 11 (pos 0) ∷ mildButClose
 
@@ -138,7 +141,7 @@ pub record Figures : Type 0 where
   pub P11 : clampFrom (hundredths (pos 5000)) (hundredths (minus 10000)) (offsetFor settings 0) ≡ hundredths (pos 2000)
   -- P12 loop sum 0: flag 0; -1: flag 1.
   pub P12 : (loopFlags (pos 0) ≡ replicate 6 false) × (loopFlags (minus 1) ≡ replicate 6 true)
-  -- N4 a mild start clears nothing: the old sum stands, and a period may open there. It stands up to the half-hour's close, which clears it.
+  -- N4 a mild start clears nothing: the old sum stands, and a period may open there. It stands until the half-hour's close, which clears it.
   pub N4-opens : (stateAfter settings 0 badHalfHour .period ≡ None) × (stateAfter settings 0 mildStart .period ≡ Held 7 17 false)
   pub N4-stands : (amountAfter mildButClose ≡ cents (minus 10000000)) × (sumSince mildButClose ≡ cents (minus 10000000))
   pub N4-cleared : (amountAfter mildHalfHour ≡ cents (pos 0)) × (sumSince mildHalfHour ≡ cents (pos 0))

@@ -25,6 +25,7 @@ unfoldable pub latestHalfHour : List Event → List Event
 latestHalfHour [] = []
 latestHalfHour (e ∷ es) = inHalfHour (halfHour (e .n)) (e ∷ es)
 
+-- One of them has a negative r.
 unfoldable pub anyNegative : List Event → Bool
 anyNegative [] = false
 anyNegative (e ∷ es) = negative (e .residue .0) || anyNegative es
@@ -35,7 +36,8 @@ clearing [] = false
 clearing (e ∷ es) = not (e .flag) || (eqb (place (e .n)) 5 && not (anyNegative (latestHalfHour (e ∷ es))))
 
 -- A direction's sum after an accepted interval adds its negative r over the accepted intervals after the latest clearing one, up to
--- and including that interval; the clearing one itself adds nothing, and if that interval is clearing the sum is 0.
+-- and including that interval; the clearing one itself adds nothing, and if that interval is clearing the sum is 0. If none came, the sum
+-- runs from the opening.
 unfoldable pub sinceClearing : List Event → List Event
 sinceClearing [] = []
 sinceClearing (e ∷ es) = cond (clearing (e ∷ es)) [] (e ∷ sinceClearing es)

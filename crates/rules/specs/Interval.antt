@@ -82,12 +82,12 @@ loopSum residue = residue 2 +ᶜ residue 3 +ᶜ residue 4 +ᶜ residue 5 +ᶜ re
 unfoldable pub flagOf : Bool → Cents → ℕ → Bool
 flagOf operating sum d = not (inLoop d && (operating && not (negative (sum .0))))
 
--- At flag 1, the place at which previous becomes 0 for a zero current: the half-hour's close, q = 5 (N4).
+-- Whether previous becomes 0 for a zero current at place q: only at the half-hour's close, q = 5 (N4).
 unfoldable pub clearsAt : ℕ → Bool
 clearsAt q = eqb q 5
 
--- At 0, previous, current and net become 0. At 1, current grows by the lower of r and 0, net by r; if current is then 0, previous
--- becomes 0 only if q = 5 (N4).
+-- At 0, previous, current and net become 0. At 1, current grows by the lower of r and 0, net by r; if current is then 0 and q = 5,
+-- previous becomes 0 (N4).
 abbrev pub grown : Cents → Sums → Sums
 grown r s = record { previous = s .previous; current = s .current +ᶜ lowerOfZero r; net = s .net +ᶜ r }
 

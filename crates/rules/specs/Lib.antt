@@ -1,4 +1,5 @@
--- What document 01 means, in its order, with the requests of document 02 that changed it, marked as "(N4)".
+-- What document 01 means, in its order. What a request of document 02 changes stands where document 01's sentence stood, marked with the
+-- request, as "(N4)". Bounds follows from it.
 pub mod Market
 pub mod Residue
 pub mod Interval

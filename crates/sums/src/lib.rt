@@ -30,7 +30,7 @@ pub fn rule1(n: u32, s: Sums) -> Sums
     s
 }
 
-// At flag 1, the place at which previous becomes 0 for a zero current: the half-hour's close, q = 5 (N4).
+// Whether previous becomes 0 for a zero current in interval n: only at the half-hour's close, q = 5 (N4).
 pub fn clears_at(n: u32) -> bool
     ensures { λ r. ⌜ r ≡ clearsAt (place n) ⌝ }
 {
@@ -55,7 +55,7 @@ fn grown(r: Cents, s: Sums) -> Sums
     }
 }
 
-// If current is then 0, previous becomes 0, where it clears.
+// If current is then 0 and the place clears, previous becomes 0.
 fn cleared_if_zero(clears: bool, s: Sums) -> Sums
     ensures { λ r. ⌜ r ≡ clearedIfZero clears s ⌝ }
 {

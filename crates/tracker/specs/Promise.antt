@@ -1,6 +1,7 @@
 -- What crates above the tracker may cite, and nothing else of it or of the crates that it is made of (with the laws of proofs/Promise): the words
--- of the three calls and of demand 3, and what the calls promise by them. (Crate `words`, which reads and writes bytes for all, is no part of it.) What lies under these words is not opened from above: the tests of numbers 4 to 8,
--- what a record says of a direction (eventOf), and what the rules make of its history (stateAfter).
+-- of the three calls and of demand 3, and what the calls promise by them. (Crate `words`, which reads and writes bytes for all, is no part of
+-- it.) What lies under these words is not opened from above: the tests of numbers 4 to 8, what a record says of a direction (eventOf), and
+-- what the rules make of its history (stateAfter).
 use mathlib.Core.List.{List, [], _∷_, _++_}
 use mathlib.Core.Path.{_≡_}
 use Prim.Native.Nat.{ℕ, _<_}
