@@ -1,12 +1,12 @@
 -- The table of steps: a test that computes over all of its entries, and what it says of each.
 -- Assumes nothing.
 use mathlib.Core.Bool.{Bool, true, false, cond, _&&_}
-use mathlib.Core.List.{List, [], _∷_}
-use mathlib.Core.Path.{_≡_}
+use mathlib.Core.List.{List, [], _∷_, map}
+use mathlib.Core.Path.{_≡_, sym, ap, _∙_}
 use Prim.Native.Nat.{ℕ, zero, suc, _≤_, _<_}
 use lib.Dec.{T, leb, leb→le, lit≤}
-use lib.IntN.{pos, natAbs}
-use lib.ListN.{getD, getD-replicate}
+use lib.IntN.{ℤ, pos, natAbs}
+use lib.ListN.{getD, getD-replicate, List·getD-map}
 use mir.Facts.{and-yes}
 use Rattle.units.specs.declared.Cents.{Cents}
 use Rattle.units.specs.declared.Hundredths.{Hundredths}
@@ -22,6 +22,13 @@ all-at : {A : Type 0} (f : A → Bool) (l : List A) (default : A) → T (all f l
 all-at f [] default t d i = d
 all-at f (x ∷ xs) default t d zero = and-yes (f x) (all f xs) t .0
 all-at f (x ∷ xs) default t d (suc i) = all-at f xs default (and-yes (f x) (all f xs) t .1) d i
+
+-- A table of numbers that is document 01's, if each is taken as hundredths of a MW, is so at each direction and band.
+pub at-each : (table : List (List ℤ)) → map (map hundredths) table ≡ settings .steps
+    → (d band : ℕ) → hundredths (getD (getD table d []) band (pos 0)) ≡ stepFor settings d band
+at-each table is d band =
+    sym (List·getD-map hundredths (getD table d []) band (pos 0))
+    ∙ ap (λ row. getD row band (hundredths (pos 0))) (sym (List·getD-map (map hundredths) table d []) ∙ ap (λ rows. getD rows d []) is)
 
 -- no step is above 100 MW either way
 small : Hundredths → Bool

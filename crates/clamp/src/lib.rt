@@ -5,10 +5,12 @@ use rules::SWAMPED;
 use units::Cents;
 use units::Hundredths;
 ghost use mathlib.Core.Bool.{cond, _&&_};
+ghost use mathlib.Core.List.{map};
 ghost use mathlib.Core.Path.{_≡_};
 ghost use lib.Dec.{eqb};
 ghost use Prim.Native.Nat.{_<_, _≤_};
 ghost use lib.IntN.{pos, natAbs};
+ghost use lib.ListN.{getD};
 ghost use Rattle.units.specs.Units.{hundredths};
 ghost use Rattle.rules.specs.Interval.{settings, isSwamped, quiet, counted, rule5, rule6, band, stepFor, lower, higher, clampFrom, rule7};
 
@@ -26,48 +28,16 @@ const UNBOUND: u8 = 0;
 
 const VIOLATED: u8 = 2;
 
-// The steps in the four bands of net (000, table 2), of directions 0 to 3.
-const STEPS_QNI_VNI: [Hundredths; 4] = [
-    Hundredths(-10_000),
-    Hundredths(-5_000),
-    Hundredths(0),
-    Hundredths(3_000),
-];
-
-// The steps of direction 4, VIC1_SA1.
-const STEPS_VIC_SA: [Hundredths; 4] = [
-    Hundredths(-5_000),
-    Hundredths(-3_000),
-    Hundredths(0),
-    Hundredths(3_000),
-];
-
-// The steps of direction 5, SA1_VIC1.
-const STEPS_SA_VIC: [Hundredths; 4] = [
-    Hundredths(-3_000),
-    Hundredths(-2_500),
-    Hundredths(0),
-    Hundredths(2_500),
-];
-
-// The steps of directions 6 and 7.
-const STEPS_NSW_SA: [Hundredths; 4] = [
-    Hundredths(-7_500),
-    Hundredths(-4_000),
-    Hundredths(0),
-    Hundredths(3_000),
-];
-
-// The steps by direction, then by band.
-const STEPS: [[Hundredths; 4]; 8] = [
-    STEPS_QNI_VNI,
-    STEPS_QNI_VNI,
-    STEPS_QNI_VNI,
-    STEPS_QNI_VNI,
-    STEPS_VIC_SA,
-    STEPS_SA_VIC,
-    STEPS_NSW_SA,
-    STEPS_NSW_SA,
+// The steps in hundredths of a MW (000, table 2): a row for each direction, with an entry for each band of net. 16 bits hold one (N5).
+const STEPS: [[i16; 4]; 8] = [
+    [-10_000, -5_000, 0, 3_000], // NSW1_QLD1
+    [-10_000, -5_000, 0, 3_000], // QLD1_NSW1
+    [-10_000, -5_000, 0, 3_000], // VIC1_NSW1
+    [-10_000, -5_000, 0, 3_000], // NSW1_VIC1
+    [-5_000, -3_000, 0, 3_000], // VIC1_SA1
+    [-3_000, -2_500, 0, 2_500], // SA1_VIC1
+    [-7_500, -4_000, 0, 3_000], // NSW1_SA1
+    [-7_500, -4_000, 0, 3_000], // SA1_NSW1
 ];
 
 pub fn is_swamped(clamp: Hundredths) -> bool
@@ -173,18 +143,35 @@ fn band(net: Cents) -> u8
     3
 }
 
-// The step of a direction in a band.
-fn step_for(d: usize, band: u8) -> Hundredths
-    requires { ⌜ (d < 8) × (band < 4) ⌝ }
-    ensures { λ r. ⌜ r ≡ stepFor settings d band ⌝ }
+// The whole table: document 01's, each entry widened.
+fn steps() -> [[i16; 4]; 8]
+    ensures { λ r. ⌜ map (map hundredths) r ≡ settings .steps ⌝ }
 {
-    let row = STEPS[d];
+    STEPS
+}
+
+// The entry of a direction's row for a band.
+fn in_band(row: [i16; 4], band: u8) -> i16
+    requires { ⌜ band < 4 ⌝ }
+    ensures { λ r. ⌜ r ≡ getD row band (pos 0) ⌝ }
+{
     match band {
         0 => row[0],
         1 => row[1],
         2 => row[2],
         _ => row[3],
     }
+}
+
+// The step of a direction in a band, widened on reading.
+fn step_for(d: usize, band: u8) -> Hundredths
+    requires { ⌜ (d < 8) × (band < 4) ⌝ }
+    ensures { λ r. ⌜ r ≡ stepFor settings d band ⌝ }
+{
+    let table = steps();
+    let narrow = in_band(table[d], band);
+    let wide = narrow as i64;
+    Hundredths(wide)
 }
 
 fn lower(a: Hundredths, b: Hundredths) -> Hundredths

@@ -2,3 +2,4 @@
 pub mod NatParts
 pub mod Calc
 pub mod EqualBits
+pub mod Widening

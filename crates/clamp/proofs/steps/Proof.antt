@@ -1,0 +1,11 @@
+-- `clamp::steps` meets its contract: a test over the whole table, which the checker computes.
+-- Assumes nothing.
+use mathlib.Core.Path.{refl}
+use Rattle.clamp.proofs.steps.Statement.{statement}
+use Rattle.clamp.proofs.steps.Tie as tie
+
+returns : tie.Need-returns
+returns c = refl
+
+pub steps-spec : {M : Type 1} → statement M
+steps-spec = tie.close (tie.spec returns)
