@@ -1,4 +1,4 @@
--- The table of steps: a test that computes over all of its entries, and what it says of each.
+-- The table of steps: tests that compute over the whole of it, and what they say of each entry.
 -- Assumes nothing.
 use mathlib.Core.Bool.{Bool, true, false, cond, _&&_}
 use mathlib.Core.List.{List, [], _∷_, map}
@@ -13,6 +13,13 @@ use Rattle.units.specs.declared.Hundredths.{Hundredths}
 use Rattle.units.specs.Units.{hundredths}
 use Rattle.rules.specs.Interval.{settings, belowEdge, band, stepFor, offsetFor}
 
+-- A table that is document 01's, each number taken as hundredths of a MW, is so at any direction and band.
+pub at-each : (table : List (List ℤ)) → map (map hundredths) table ≡ settings .steps
+    → (d band : ℕ) → hundredths (getD (getD table d []) band (pos 0)) ≡ stepFor settings d band
+at-each table whole d band =
+    let at-d = sym (List·getD-map (map hundredths) table d []) ∙ ap (λ rows. getD rows d []) whole in
+    sym (List·getD-map hundredths (getD table d []) band (pos 0)) ∙ ap (λ row. getD row band (hundredths (pos 0))) at-d
+
 -- f holds of each element
 abbrev all : {A : Type 0} → (A → Bool) → List A → Bool
 all f [] = true
@@ -22,13 +29,6 @@ all-at : {A : Type 0} (f : A → Bool) (l : List A) (default : A) → T (all f l
 all-at f [] default t d i = d
 all-at f (x ∷ xs) default t d zero = and-yes (f x) (all f xs) t .0
 all-at f (x ∷ xs) default t d (suc i) = all-at f xs default (and-yes (f x) (all f xs) t .1) d i
-
--- A table of numbers that is document 01's, if each is taken as hundredths of a MW, is so at each direction and band.
-pub at-each : (table : List (List ℤ)) → map (map hundredths) table ≡ settings .steps
-    → (d band : ℕ) → hundredths (getD (getD table d []) band (pos 0)) ≡ stepFor settings d band
-at-each table is d band =
-    sym (List·getD-map hundredths (getD table d []) band (pos 0))
-    ∙ ap (λ row. getD row band (hundredths (pos 0))) (sym (List·getD-map (map hundredths) table d []) ∙ ap (λ rows. getD rows d []) is)
 
 -- no step is above 100 MW either way
 small : Hundredths → Bool
