@@ -1,4 +1,4 @@
--- The table of steps: tests that compute over the whole of it, and what they say of each entry.
+-- The steps, the bands and the offset: what holds of each entry since it holds of the whole table.
 -- Assumes nothing.
 use mathlib.Core.Bool.{Bool, true, false, cond, _&&_}
 use mathlib.Core.List.{List, [], _∷_, map}
@@ -11,14 +11,15 @@ use mir.Facts.{and-yes}
 use Rattle.units.specs.declared.Cents.{Cents}
 use Rattle.units.specs.declared.Hundredths.{Hundredths}
 use Rattle.units.specs.Units.{hundredths}
+use Rattle.clamp.specs.Internal.{widened}
 use Rattle.rules.specs.Interval.{settings, belowEdge, band, stepFor, offsetFor}
 
--- A table that is document 01's, each number taken as hundredths of a MW, is so at any direction and band.
-pub at-each : (table : List (List ℤ)) → map (map hundredths) table ≡ settings .steps
-    → (d band : ℕ) → hundredths (getD (getD table d []) band (pos 0)) ≡ stepFor settings d band
+-- A table that is document 01's, each entry widened, is so at any direction and band.
+pub at-each : (table : List (List ℤ)) → map (map widened) table ≡ settings .steps
+    → (d band : ℕ) → widened (getD (getD table d []) band (pos 0)) ≡ stepFor settings d band
 at-each table whole d band =
-    let at-d = sym (List·getD-map (map hundredths) table d []) ∙ ap (λ rows. getD rows d []) whole in
-    sym (List·getD-map hundredths (getD table d []) band (pos 0)) ∙ ap (λ row. getD row band (hundredths (pos 0))) at-d
+    let at-d = sym (List·getD-map (map widened) table d []) ∙ ap (λ rows. getD rows d []) whole in
+    sym (List·getD-map widened (getD table d []) band (pos 0)) ∙ ap (λ row. getD row band (hundredths (pos 0))) at-d
 
 -- f holds of each element
 abbrev all : {A : Type 0} → (A → Bool) → List A → Bool

@@ -12,6 +12,7 @@ ghost use Prim.Native.Nat.{_<_, _≤_};
 ghost use lib.IntN.{pos, natAbs};
 ghost use lib.ListN.{getD};
 ghost use Rattle.units.specs.Units.{hundredths};
+ghost use Rattle.clamp.specs.Internal.{widened};
 ghost use Rattle.rules.specs.Interval.{settings, isSwamped, quiet, counted, rule5, rule6, band, stepFor, lower, higher, clampFrom, rule7};
 
 // No clamp is above this, unless it is swamped.
@@ -28,7 +29,8 @@ const UNBOUND: u8 = 0;
 
 const VIOLATED: u8 = 2;
 
-// The steps in hundredths of a MW (000, table 2): a row for each direction, with an entry for each band of net. 16 bits hold one (N5).
+// The steps in hundredths of a MW (000, table 2): a row for each direction, in it an entry for each band of net. Each fits in 16 bits,
+// and `step_for` widens it (N5).
 const STEPS: [[i16; 4]; 8] = [
     [-10_000, -5_000, 0, 3_000], // NSW1_QLD1
     [-10_000, -5_000, 0, 3_000], // QLD1_NSW1
@@ -143,15 +145,15 @@ fn band(net: Cents) -> u8
     3
 }
 
-// The whole table: document 01's, each entry widened.
+// The whole table, so that one contract speaks of all 32 entries: widened, they are document 01's.
 fn steps() -> [[i16; 4]; 8]
-    ensures { λ r. ⌜ map (map hundredths) r ≡ settings .steps ⌝ }
+    ensures { λ r. ⌜ map (map widened) r ≡ settings .steps ⌝ }
 {
     STEPS
 }
 
 // The entry of a direction's row for a band.
-fn in_band(row: [i16; 4], band: u8) -> i16
+fn entry_for(row: [i16; 4], band: u8) -> i16
     requires { ⌜ band < 4 ⌝ }
     ensures { λ r. ⌜ r ≡ getD row band (pos 0) ⌝ }
 {
@@ -169,7 +171,7 @@ fn step_for(d: usize, band: u8) -> Hundredths
     ensures { λ r. ⌜ r ≡ stepFor settings d band ⌝ }
 {
     let table = steps();
-    let narrow = in_band(table[d], band);
+    let narrow = entry_for(table[d], band);
     let wide = narrow as i64;
     Hundredths(wide)
 }

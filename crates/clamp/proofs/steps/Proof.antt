@@ -1,4 +1,4 @@
--- `clamp::steps` meets its contract: a test over the whole table, which the checker computes.
+-- `clamp::steps` meets its contract: one test over the whole table, which the checker computes.
 -- Assumes nothing.
 use mathlib.Core.Path.{refl}
 use Rattle.clamp.proofs.steps.Statement.{statement}

@@ -1,10 +1,10 @@
--- `clamp::in_band` meets its contract: the entry of the row at the band's number.
+-- `clamp::entry_for` meets its contract: the entry of the row at the band's number.
 -- Assumes nothing.
 use mathlib.Core.Path.{_≡_}
 use native.Mathlib.Omega.{arith}
 use borrow.Author.Needs.{needs}
-use Rattle.clamp.proofs.in_band.Statement.{statement}
-use Rattle.clamp.proofs.in_band.Tie as tie
+use Rattle.clamp.proofs.entry_for.Statement.{statement}
+use Rattle.clamp.proofs.entry_for.Tie as tie
 
 returns : tie.Need-returns
 returns c = rw (c .before .match .keys1) (search needs)
@@ -21,8 +21,8 @@ returns-4 c =
     let e : c .before .before .args .band ≡ 3 = omega (arith, r .1, r .0 .1, r .0 .0 .1, c .before .before .pre) in
     rw e (search needs)
 
-pub in-band-spec : {M : Type 1} → statement M
-in-band-spec =
+pub entry-for-spec : {M : Type 1} → statement M
+entry-for-spec =
     tie.close
     (tie.spec
     (λ c. search needs)

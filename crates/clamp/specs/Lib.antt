@@ -1,0 +1,2 @@
+-- What an entry of the step table stands for.
+pub mod Internal
