@@ -49,7 +49,7 @@ fn print_rows_of(bytes: &[u8]) {
     );
     io::write_all(
         STDOUT_FILENO,
-        b"unbound,violated,blocked,flag,clamp,notice\n",
+        b"unbound,violated,blocked,flag,clamp,notice,leftover\n",
     );
     let found = journal::read(bytes);
     let records = journal::records(bytes);

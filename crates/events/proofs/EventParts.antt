@@ -6,11 +6,11 @@ use mathlib.Core.Path.{_≡_, refl, ap, _∙_}
 use Prim.Native.Nat.{ℕ, _≤_, _<_}
 use native.Mathlib.Nat.{le-trans}
 use lib.Dec.{lit≤}
-use lib.IntN.{pos}
 use lib.ListN.{getD, replicate}
 use Rattle.units.specs.declared.Cents.{Cents}
-use Rattle.units.specs.Units.{cents}
 use Rattle.rules.specs.declared.Line.{Line}
+use Rattle.rules.specs.declared.Residue.{Residue}
+use Rattle.rules.specs.Residue.{noResidue}
 use Rattle.rules.specs.Interval.{loopSum, flagOf, nextOf}
 use Rattle.rules.specs.Market.{ofDirections}
 use Rattle.rules.specs.Record.{recordNumber, operating, present, ofRegions, ofLines, prices, lines, preDispatchPrices, preDispatchLines, residue, eventOf}
@@ -45,16 +45,16 @@ module _ {shares b : List ℕ} (r : Readable shares b) where
   all-in-range true = in-range (lit≤ tt) (lit≤ tt) (pre-dispatch-ranged (recordNumber b) b sound)
 
 -- without pre-dispatch its residues count for nothing
-next-is : (flag : Bool) (n : ℕ) (p : Bool) (preDispatch : ℕ → Cents) (d : ℕ) → d < 8
-    → nextOf flag n p (getD (cond p (ofDirections preDispatch) (replicate 8 (cents (pos 0)))) d (cents (pos 0))) ≡ nextOf flag n p (preDispatch d)
-next-is flag n true preDispatch d h = ap (λ (x : Cents). nextOf flag n true x) (at-direction preDispatch (cents (pos 0)) d h)
-next-is flag n false preDispatch d h = next-law flag n false _ .absent refl ∙ rw (next-law flag n false (preDispatch d) .absent refl)
+next-is : (flag : Bool) (n : ℕ) (p : Bool) (preDispatch : ℕ → Residue) (d : ℕ) → d < 8
+    → nextOf flag n p (getD (cond p (ofDirections preDispatch) (replicate 8 noResidue)) d noResidue .cents) ≡ nextOf flag n p (preDispatch d .cents)
+next-is flag n true preDispatch d h = ap (λ (x : Residue). nextOf flag n true (x .cents)) (at-direction preDispatch noResidue d h)
+next-is flag n false preDispatch d h = next-law flag n false _ .absent refl ∙ rw (next-law flag n false (preDispatch d .cents) .absent refl)
 
 -- an event put together from the record's header, its residues, those of pre-dispatch and the loop's sum is the record's
-pub event-is : (shares b : List ℕ) {residues preDispatch : List Cents} {sum : Cents}
+pub event-is : (shares b : List ℕ) {residues preDispatch : List Residue} {sum : Cents}
     → residues ≡ ofDirections (residueIn false shares b)
     → preDispatch ≡ preDispatchOf (present b) shares b
-    → sum ≡ loopSum (at residues)
+    → sum ≡ loopSum (λ k. at residues k .cents)
     → (d : ℕ) → d < 8 → eventFrom (header b) residues preDispatch sum b d ≡ eventOf shares d b
 unfolding eventFrom eventOf prices lines preDispatchPrices preDispatchLines
 event-is shares b r a s d h =
@@ -63,6 +63,6 @@ event-is shares b r a s d h =
       loop-sum-is (residueIn false shares b) r,
       r,
       a,
-      at-direction (residueIn false shares b) (cents (pos 0)) d h,
-      next-is (flagOf (operating b) (loopSum (residue shares b)) d) (recordNumber b) (present b) (residueIn true shares b) d h,
+      at-direction (residueIn false shares b) noResidue d h,
+      next-is (flagOf (operating b) (loopSum (λ k. residue shares b k .cents)) d) (recordNumber b) (present b) (residueIn true shares b) d h,
     )

@@ -1,6 +1,7 @@
-// What an accepted record says of each direction: residue, loop flag, estimate, review, status, blocked mark and target sum.
+// What an accepted record says of each direction: residue and leftover, loop flag, estimate, review, status, blocked mark and target sum.
 use record::Header;
 use rules::Event;
+use rules::Residue;
 use units::Cents;
 use units::Hundredths;
 ghost use mathlib.Core.Path.{_≡_};
@@ -35,7 +36,7 @@ fn target_sum(s: &[u8], d: usize) -> Hundredths
 }
 
 // The residues of the interval or of the pre-dispatch half-hour.
-fn residues_of(shares: [u16; 6], s: &[u8], pre_dispatch: bool) -> [Cents; 8]
+fn residues_of(shares: [u16; 6], s: &[u8], pre_dispatch: bool) -> [Residue; 8]
     requires { ⌜ Readable shares (now s) ⌝ }
     ensures { λ r. ⌜ r ≡ ofDirections (residueIn «pre_dispatch» shares (now (s .entry))) ⌝ }
 {
@@ -45,22 +46,22 @@ fn residues_of(shares: [u16; 6], s: &[u8], pre_dispatch: bool) -> [Cents; 8]
 }
 
 // The residues of the pre-dispatch half-hour. Where there is none nothing is worked out.
-fn pre_dispatch_residues(shares: [u16; 6], s: &[u8], present: bool) -> [Cents; 8]
+fn pre_dispatch_residues(shares: [u16; 6], s: &[u8], present: bool) -> [Residue; 8]
     requires { ⌜ Readable shares (now s) ⌝ }
     ensures { λ r. ⌜ r ≡ preDispatchOf present shares (now (s .entry)) ⌝ }
 {
     if present {
         return residues_of(shares, s, true);
     }
-    [Cents(0); 8]
+    [residue::no_residue(); 8]
 }
 
 // What the record says of direction d, given its header, the residues and the loop's sum.
 fn event(
     s: &[u8],
     header: Header,
-    residues: [Cents; 8],
-    pre_dispatch: [Cents; 8],
+    residues: [Residue; 8],
+    pre_dispatch: [Residue; 8],
     loop_sum: Cents,
     d: usize,
 ) -> Event
@@ -68,13 +69,16 @@ fn event(
     ensures { λ r. ⌜ r ≡ eventFrom header residues «pre_dispatch» «loop_sum» (now (s .entry)) d ⌝ }
 {
     let flag = residue::flag(header.operating, loop_sum, d);
-    let own = residues[d];
-    let next = residue::next(flag, header.n, header.present, pre_dispatch[d]);
+    let own = residue::cents_at(residues, d);
+    let leftover = residue::leftover_at(residues, d);
+    let ahead = residue::cents_at(pre_dispatch, d);
+    let next = residue::next(flag, header.n, header.present, ahead);
     let target = target_sum(s, d);
     Event {
         n: header.n,
         flag: flag,
         residue: own,
+        leftover: leftover,
         next: next,
         review: header.review,
         status: record::status(s, d),
@@ -87,8 +91,8 @@ fn event(
 fn each_event(
     s: &[u8],
     header: Header,
-    residues: [Cents; 8],
-    pre_dispatch: [Cents; 8],
+    residues: [Residue; 8],
+    pre_dispatch: [Residue; 8],
     loop_sum: Cents,
 ) -> [Event; 8]
     requires { ⌜ Whole (now s) ⌝ }

@@ -1,9 +1,15 @@
-// A caller of the tracker, as another crate would write it: two intervals after an opening, and the row of VIC1_NSW1. It has demand 3 of its own
-// list of calls from what the calls promise, and from nothing else.
+// Callers of the tracker, as another crate would write them. What they say of their own lists of calls, demand 3 and N8's law, they have from
+// what the calls promise, and from nothing else.
 use rules::Row;
-ghost use Rattle.example.specs.Own.{Own};
+ghost use Rattle.example.specs.Own.{Own, Complete};
 
-// The row after two records, of any length and content.
+// The rows of VIC1_NSW1 and NSW1_VIC1.
+pub struct BothWays {
+    pub forward: Row,
+    pub back: Row,
+}
+
+// The row of VIC1_NSW1 after two records, of any length and content.
 pub fn after_two(first: u32, shares: [u16; 6], earlier: &[u8], later: &[u8]) -> Row
     ensures { λ r. ⌜ Own first shares (now (earlier .entry)) (now (later .entry)) r ⌝ }
 {
@@ -12,4 +18,20 @@ pub fn after_two(first: u32, shares: [u16; 6], earlier: &[u8], later: &[u8]) -> 
     let two = tracker::interval(one.tracker, later);
     let shown = tracker::row(two.tracker, 2);
     shown.row
+}
+
+// The rows of a corridor's two directions after a record.
+pub fn both_ways(first: u32, shares: [u16; 6], bytes: &[u8]) -> BothWays
+    ensures { λ r. ⌜ Complete first shares (now (bytes .entry)) r ⌝ }
+{
+    let opened = tracker::open(first, shares);
+    let one = tracker::interval(opened.tracker, bytes);
+    let vic_nsw = tracker::row(one.tracker, 2);
+    let nsw_vic = tracker::row(one.tracker, 3);
+    let forward = vic_nsw.row;
+    let back = nsw_vic.row;
+    BothWays {
+        forward: forward,
+        back: back,
+    }
 }

@@ -3,11 +3,12 @@ use libc::STDOUT_FILENO;
 use rules::Period;
 use rules::Row;
 use units::Cents;
+use units::Grains;
 use units::Hundredths;
 ghost use Prim.Native.Nat.{_≤_};
 ghost use lib.IntN.{natAbs};
 ghost use Rattle.io.specs.Counts.{Counts};
-ghost use Rattle.tracker.specs.Promise.{RowBounds, highestSum};
+ghost use Rattle.tracker.specs.Promise.{RowBounds, WithinHalfCent, highestSum};
 
 // A number and the byte that ends it.
 pub fn print_number(n: u64, end: u8) {
@@ -40,6 +41,15 @@ fn print_hundredths(z: Hundredths)
     io::write_all(STDOUT_FILENO, &out[from..]);
 }
 
+// The last of a line.
+fn print_grains(z: Grains)
+    requires { ⌜ WithinHalfCent z ⌝ }
+{
+    let mut out = [0u8; 32];
+    let from = text::grains(z, b'\n', &mut out, 32);
+    io::write_all(STDOUT_FILENO, &out[from..]);
+}
+
 // Held or not, first, last, extended; no period is four zeros.
 fn print_period(p: Period) {
     match p {
@@ -59,6 +69,22 @@ fn print_period(p: Period) {
     }
 }
 
+// The fields of a row after its period, to the line's end: the leftover is the last.
+fn print_after_period(r: Row)
+    requires { ⌜ RowBounds r ⌝ }
+{
+    let counts = r.counts;
+    let clamp = r.clamp;
+    let leftover = r.leftover;
+    print_number(counts.unbound as u64, b',');
+    print_number(counts.violated as u64, b',');
+    print_bool(r.blocked);
+    print_bool(r.flag);
+    print_hundredths(clamp);
+    print_number(r.notice as u64, b',');
+    print_grains(leftover);
+}
+
 // Every field of a row, in one line.
 pub fn print_row(r: Row)
     requires { ⌜ RowBounds r ⌝ }
@@ -70,8 +96,6 @@ pub fn print_row(r: Row)
     let next = r.next;
     let net = r.net;
     let period = r.period;
-    let counts = r.counts;
-    let clamp = r.clamp;
     print_number(r.n as u64, b',');
     print_number(r.direction as u64, b',');
     print_cents(residue);
@@ -82,12 +106,7 @@ pub fn print_row(r: Row)
     print_cents(next);
     print_cents(net);
     print_period(period);
-    print_number(counts.unbound as u64, b',');
-    print_number(counts.violated as u64, b',');
-    print_bool(r.blocked);
-    print_bool(r.flag);
-    print_hundredths(clamp);
-    print_number(r.notice as u64, b'\n');
+    print_after_period(r);
 }
 
 pub fn print_refusal(number: u8) {

@@ -10,9 +10,10 @@ use Rattle.units.specs.Units.{cents}
 use Rattle.rules.specs.declared.Corridor.{Corridor}
 use Rattle.rules.specs.declared.Line.{Line}
 use Rattle.rules.specs.Market.{corridor}
-use Rattle.rules.specs.Residue.{line}
+use Rattle.rules.specs.Residue.{line, noResidue}
 use mathlib.Core.Bool.{Bool, cond, Bool·beq}
 use Rattle.rules.specs.declared.CorridorResidue.{CorridorResidue}
+use Rattle.rules.specs.declared.Residue.{Residue}
 
 -- A corridor's regions are among the four; it has at most two of the six physical interconnectors.
 pub record IsCorridor (c : ℕ) (r : Corridor) : Type 0 where
@@ -56,5 +57,5 @@ pub record InRange (prices : List Cents) (shares : List ℕ) (lines : List Line)
   pub losses : (i : ℕ) → natAbs (line prices shares lines i .b .0) ≤ highestB
 
 -- a corridor's residue as its From_To (false) or To_From (true) direction has it
-abbrev pub assigned : Bool → CorridorResidue → Cents
-assigned reverse r = cond (Bool·beq reverse (r .reverse)) (r .residue) (cents (pos 0))
+abbrev pub assigned : Bool → CorridorResidue → Residue
+assigned reverse r = cond (Bool·beq reverse (r .reverse)) (r .residue) noResidue

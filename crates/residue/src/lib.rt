@@ -1,7 +1,9 @@
-// The residues of the eight directions, the loop flag and the estimate of one record: document 01's "Residue", and rules 2 and 3.
+// The residues of the eight directions with their leftovers, the loop flag and the estimate of one record: document 01's "Residue", rules 2
+// and 3, and N8.
 use rules::Corridor;
 use rules::CorridorResidue;
 use rules::Line;
+use rules::Residue;
 use units::Cents;
 use units::Grains;
 use units::Hundredths;
@@ -12,9 +14,8 @@ ghost use lib.Dec.{eqb};
 ghost use lib.IntN.{pos, natAbs};
 ghost use lib.ListN.{getD};
 ghost use Rattle.signed.specs.Range.{minus};
-ghost use Rattle.units.specs.Units.{cents};
 ghost use Rattle.rules.specs.Bounds.{highestNext};
-ghost use Rattle.rules.specs.Residue.{grainsOf, rounded, corridorResidue, residueOf};
+ghost use Rattle.rules.specs.Residue.{grainsOf, rounded, inCents, noResidue, corridorResidue, residueOf};
 ghost use Rattle.rules.specs.Interval.{place, loopSum, flagOf, nextOf};
 ghost use Rattle.residue.specs.Internal.{IsCorridor, LineInRange, InRange, highestCorridorGrains, assigned};
 ghost use Rattle.rules.specs.Market.{ofDirections};
@@ -94,6 +95,29 @@ fn rounded(g: Grains) -> Cents
     Cents(shifted / 2_400_000)
 }
 
+// Grains in cents, and the leftover: what the cents leave of them (N8).
+fn in_cents(g: Grains) -> Residue
+    requires { ⌜ natAbs (g .0) ≤ highestCorridorGrains ⌝ }
+    ensures { λ r. ⌜ r ≡ inCents g ⌝ }
+{
+    let cents = rounded(g);
+    let leftover = g.minus(cents.in_grains());
+    Residue {
+        cents: cents,
+        leftover: leftover,
+    }
+}
+
+// No residue: 0 cents, and nothing left over.
+pub fn no_residue() -> Residue
+    ensures { λ r. ⌜ r ≡ noResidue ⌝ }
+{
+    Residue {
+        cents: Cents(0),
+        leftover: Grains(0),
+    }
+}
+
 // Grains and flow are summed over the corridor's lines first, so that the residue is rounded once.
 fn corridor(prices: [Cents; 4], shares: [u16; 6], lines: [Line; 6], c: usize) -> CorridorResidue
     requires { ⌜ (c < 4) × InRange prices shares lines ⌝ }
@@ -116,26 +140,26 @@ fn corridor(prices: [Cents; 4], shares: [u16; 6], lines: [Line; 6], c: usize) ->
         sum = sum.plus(grains(p, q, k, l));
         flow = flow.plus(a);
     }
-    let residue = rounded(sum);
+    let residue = in_cents(sum);
     CorridorResidue {
         residue: residue,
         reverse: flow.is_negative(),
     }
 }
 
-// A direction has its corridor's residue if the flow is that way, else 0.
-fn along(r: CorridorResidue, reverse: bool) -> Cents
+// A direction has its corridor's residue, with the leftover, if the flow is that way, else 0.
+fn along(r: CorridorResidue, reverse: bool) -> Residue
     ensures { λ v. ⌜ v ≡ assigned reverse r ⌝ }
 {
     if reverse == r.reverse {
         r.residue
     } else {
-        Cents(0)
+        no_residue()
     }
 }
 
 // Each corridor's residue is worked out once, for both its directions.
-pub fn residues(prices: [Cents; 4], shares: [u16; 6], lines: [Line; 6]) -> [Cents; 8]
+pub fn residues(prices: [Cents; 4], shares: [u16; 6], lines: [Line; 6]) -> [Residue; 8]
     requires { ⌜ InRange prices shares lines ⌝ }
     ensures { λ r. ⌜ r ≡ ofDirections (residueOf prices shares lines) ⌝ }
 {
@@ -155,12 +179,34 @@ pub fn residues(prices: [Cents; 4], shares: [u16; 6], lines: [Line; 6]) -> [Cent
     ]
 }
 
-// The sum over directions 2 to 7, the loop's.
-pub fn loop_sum(r: [Cents; 8]) -> Cents
-    requires { ⌜ ((d : ℕ) → natAbs (getD r d (cents (pos 0)) .0) ≤ highestNext) ⌝ }
-    ensures { λ s. ⌜ s ≡ loopSum (λ d. getD r d (cents (pos 0))) ⌝ }
+// The cents of direction d's residue.
+pub fn cents_at(r: [Residue; 8], d: usize) -> Cents
+    requires { ⌜ d < 8 ⌝ }
+    ensures { λ v. ⌜ v ≡ getD r d noResidue .cents ⌝ }
 {
-    r[2].plus(r[3]).plus(r[4]).plus(r[5]).plus(r[6]).plus(r[7])
+    let own = r[d];
+    own.cents
+}
+
+// The leftover of direction d's residue (N8).
+pub fn leftover_at(r: [Residue; 8], d: usize) -> Grains
+    requires { ⌜ d < 8 ⌝ }
+    ensures { λ v. ⌜ v ≡ getD r d noResidue .leftover ⌝ }
+{
+    let own = r[d];
+    own.leftover
+}
+
+// The sum over directions 2 to 7, the loop's.
+pub fn loop_sum(r: [Residue; 8]) -> Cents
+    requires { ⌜ ((d : ℕ) → natAbs (getD r d noResidue .cents .0) ≤ highestNext) ⌝ }
+    ensures { λ s. ⌜ s ≡ loopSum (λ d. getD r d noResidue .cents) ⌝ }
+{
+    let mut sum = Cents(0);
+    for k in 0..6 {
+        sum = sum.plus(cents_at(r, 2 + k));
+    }
+    sum
 }
 
 // The loop flag: false for a direction of the loop while the loop operates and its residues sum to zero or more.

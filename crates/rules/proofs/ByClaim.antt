@@ -62,10 +62,10 @@ module _ (o : Opening) (calls : List (List ℕ)) (t : Tracker) (claim : Claim o 
   unfolding rowOf
   sum-in-two = amount-is of-direction
 
-  -- The row shows the latest accepted interval: n, r, next and flag follow from its record b and the shares.
+  -- The row shows the latest accepted interval: n, r, next, flag and the leftover (N8) follow from its record b and the shares.
   pub shows-latest : (b : List ℕ) (bs : List (List ℕ)) → accepted o calls ≡ b ∷ bs
-      → (its-row .n ≡ recordNumber b) × (its-row .residue ≡ residue (sharesOf o) b d) × (its-row .next ≡ next (sharesOf o) b d) × (its-row .flag ≡ flag (sharesOf o) b d)
+      → (its-row .n ≡ recordNumber b) × (its-row .residue ≡ residue (sharesOf o) b d .cents) × (its-row .next ≡ next (sharesOf o) b d) × (its-row .flag ≡ flag (sharesOf o) b d) × (its-row .leftover ≡ residue (sharesOf o) b d .leftover)
   unfolding history workedRow eventOf
   shows-latest b bs e =
       let is : its-row ≡ workedRow (firstOf o) d (history o d (b ∷ bs)) = rw e at (of-direction .is-worked) in
-      (ap (λ (r : Row). r .n) is, ap (λ (r : Row). r .residue) is, ap (λ (r : Row). r .next) is, ap (λ (r : Row). r .flag) is)
+      (ap (λ (r : Row). r .n) is, ap (λ (r : Row). r .residue) is, ap (λ (r : Row). r .next) is, ap (λ (r : Row). r .flag) is, ap (λ (r : Row). r .leftover) is)

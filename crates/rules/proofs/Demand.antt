@@ -8,7 +8,6 @@ use native.Mathlib.Omega.{arith}
 use lib.Dec.{T}
 use lib.IntN.{ℤ}
 use Rattle.units.specs.Units.{cents}
-use Rattle.rules.specs.declared.Event.{Event}
 use Rattle.rules.specs.declared.Direction.{Direction}
 use Rattle.rules.specs.declared.Tracker.{Tracker}
 use Rattle.rules.specs.declared.Row.{Row}
@@ -31,7 +30,7 @@ refused t b n = go (accepts (t .awaited) b) n
     go false n = refl
 
 abbrev rowWith : ℕ → ℕ → Direction → Row
-rowWith n d s = row n d (s .residue) (s .next) (s .blocked) (s .flag) s
+rowWith n d s = row n d (s .residue) (s .next) (s .blocked) (s .flag) (s .leftover) s
 
 -- the row shown of a history replayed is the one worked out
 worked : (o : Opening) (d : ℕ) (bs : List (List ℕ)) → rowWith (shownAfter o bs) d (stateAfter settings d (history o d bs)) ≡ workedRow (firstOf o) d (history o d bs)

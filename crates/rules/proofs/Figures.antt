@@ -30,4 +30,7 @@ figures = record {
   N4-opens = (refl, refl);
   N4-stands = (refl, refl);
   N4-cleared = (refl, refl);
+  N8-ends = (refl, refl);
+  N8-rows = refl;
+  N8-flags = (refl, refl);
 }

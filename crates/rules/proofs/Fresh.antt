@@ -9,7 +9,7 @@ use lib.ListN.{set, replicate}
 use Rattle.signed.specs.Range.{minus}
 use Rattle.units.specs.declared.Cents.{Cents}
 use Rattle.units.specs.declared.Hundredths.{Hundredths}
-use Rattle.units.specs.Units.{cents, hundredths}
+use Rattle.units.specs.Units.{cents, hundredths, grains}
 use Rattle.rules.specs.declared.Period.the-variants.{None}
 use Rattle.rules.specs.declared.Direction.{Direction}
 use Rattle.rules.specs.declared.Tracker.{Tracker}
@@ -50,6 +50,7 @@ freshDirection = record {
   counts = record { unbound = 0; violated = 0 };
   suspended = false;
   residue = noCents;
+  leftover = grains (pos 0);
   next = noCents;
   blocked = false;
   flag = true;
@@ -97,6 +98,7 @@ rowOfZeros n d flag clamp = record {
   flag = flag;
   clamp = clamp;
   notice = 0;
+  leftover = grains (pos 0);
 }
 
 -- A fresh row has n = first, its direction, the rest 0 or none, flag 1, clamp swamped.

@@ -18,11 +18,12 @@ use Rattle.units.specs.declared.Grains.{Grains}
 use Rattle.units.specs.declared.Hundredths.{Hundredths}
 use Rattle.units.specs.Units.{cents, _+ᶜ_, lowerOfZero, _+ʰ_, grains, _+ᵍ_}
 use Rattle.rules.specs.declared.Line.{Line}
+use Rattle.rules.specs.declared.Residue.{Residue}
 use Rattle.rules.specs.declared.Event.{Event}
 use Rattle.rules.specs.declared.Sums.{Sums}
 use Rattle.rules.specs.declared.Direction.{Direction}
 use Rattle.rules.specs.Market.{corridorOf, reverse, ofDirections}
-use Rattle.rules.specs.Residue.{grainsOf, rounded, price, line, corridorGrains, corridorFlow, residueOf}
+use Rattle.rules.specs.Residue.{grainsOf, inCents, noResidue, price, line, corridorGrains, corridorFlow, residueOf}
 use Rattle.rules.specs.Interval.{halfHour, place, clearsAt, rule1, rule2, flagOf, nextOf, sumsAfter}
 use Rattle.rules.specs.Record.{recordNumber, reviewed, operating, present, status, blocked, prices, lines, preDispatchPrices, preDispatchLines, residue, preDispatchResidue, flag, next}
 
@@ -58,9 +59,12 @@ unfolding flagOf
 flag-inside op sum d l = rw (le-leb 2 d l)
 
 module _ (shares b : List ℕ) where
+  abbrev r : ℕ → Cents
+  r d = residue shares b d .cents
+
   -- The residues of directions 2-7, added.
   abbrev pub loopResidues : Cents
-  loopResidues = residue shares b 2 +ᶜ residue shares b 3 +ᶜ residue shares b 4 +ᶜ residue shares b 5 +ᶜ residue shares b 6 +ᶜ residue shares b 7
+  loopResidues = r 2 +ᶜ r 3 +ᶜ r 4 +ᶜ r 5 +ᶜ r 6 +ᶜ r 7
 
   pub record-flag-outside : (d : ℕ) → d < 2 → flag shares b d ≡ true
   record-flag-outside = flag-outside (operating b) loopResidues
@@ -123,8 +127,8 @@ next-law flag n present preDispatch = record {
     go false = record { le = tt }
 
 pub record-next-law : (shares b : List ℕ) (d : ℕ)
-    → NextLaw (flag shares b d) (recordNumber b) (present b) (residueOf (preDispatchPrices b) shares (preDispatchLines b) d) (next shares b d)
-record-next-law shares b d = next-law (flag shares b d) (recordNumber b) (present b) (preDispatchResidue shares b d)
+    → NextLaw (flag shares b d) (recordNumber b) (present b) (residueOf (preDispatchPrices b) shares (preDispatchLines b) d .cents) (next shares b d)
+record-next-law shares b d = next-law (flag shares b d) (recordNumber b) (present b) (preDispatchResidue shares b d .cents)
 
 -- ---- the residue
 -- k is the From loss share: at 1000 the From price bears all losses, at 0 the To price does.
@@ -170,8 +174,8 @@ module _ (prices : List Cents) (shares : List ℕ) (lines : List Line) where
   NSW1-to-SA1 = (simp +ℤ-idl, simp +ℤ-idl)
 
   -- Then they are rounded. The corridor's sum of a gives the direction:
-  abbrev assigned : ℕ → Bool → Bool → Cents
-  assigned c to-from flows-back = cond (Bool·beq to-from flows-back) (rounded (corridorGrains prices shares lines c)) (cents (pos 0))
+  abbrev assigned : ℕ → Bool → Bool → Residue
+  assigned c to-from flows-back = cond (Bool·beq to-from flows-back) (inCents (corridorGrains prices shares lines c)) noResidue
 
   abbrev pub flowsBack : ℕ → Bool
   flowsBack c = negative (corridorFlow prices shares lines c .0)
@@ -183,13 +187,23 @@ module _ (prices : List Cents) (shares : List ℕ) (lines : List Line) where
   unfolding residueOf
   residue-is c d to-from flows-back of f = ap₂ (λ c t. assigned c t (flowsBack c)) (of .0) (of .1) ∙ ap (assigned c to-from) f
 
-  -- zero or more is From_To, less is To_From. That direction's residue r is the rounded sum; the other's is 0.
+  -- zero or more is From_To, less is To_From. That direction's residue r is the rounded sum, with its leftover; the other's is 0, and so is
+  -- its leftover (N8).
   pub residue-from-to : (c : ℕ)
       → flowsBack c ≡ false
-      → (residueOf prices shares lines (2 * c) ≡ rounded (corridorGrains prices shares lines c)) × (residueOf prices shares lines (2 * c + 1) ≡ cents (pos 0))
+      → (residueOf prices shares lines (2 * c) ≡ inCents (corridorGrains prices shares lines c)) × (residueOf prices shares lines (2 * c + 1) ≡ noResidue)
   residue-from-to c f = (residue-is c (2 * c) false false (direction-from-to c) f, residue-is c (2 * c + 1) true false (direction-to-from c) f)
 
   pub residue-to-from : (c : ℕ)
       → flowsBack c ≡ true
-      → (residueOf prices shares lines (2 * c) ≡ cents (pos 0)) × (residueOf prices shares lines (2 * c + 1) ≡ rounded (corridorGrains prices shares lines c))
+      → (residueOf prices shares lines (2 * c) ≡ noResidue) × (residueOf prices shares lines (2 * c + 1) ≡ inCents (corridorGrains prices shares lines c))
   residue-to-from c f = (residue-is c (2 * c) false true (direction-from-to c) f, residue-is c (2 * c + 1) true true (direction-to-from c) f)
+
+  -- What holds of each corridor's grains in cents, and of no residue, holds of a direction's residue.
+  pub of-residue : (P : Residue → Type 0) → ((c : ℕ) → P (inCents (corridorGrains prices shares lines c))) → P noResidue → (d : ℕ) → P (residueOf prices shares lines d)
+  unfolding residueOf
+  of-residue P corridor none d = go (Bool·beq (reverse d) (flowsBack (corridorOf d)))
+    where
+      go : (t : Bool) → P (cond t (inCents (corridorGrains prices shares lines (corridorOf d))) noResidue)
+      go true = corridor (corridorOf d)
+      go false = none

@@ -7,6 +7,8 @@ pub mod Laws
 pub mod Figures
 pub mod Corridors
 pub mod RecordRanges
+pub mod CentsAndGrains
+pub mod Leftover
 pub mod ResidueBounds
 pub mod SumInvariant
 pub mod PeriodInvariant

@@ -3,7 +3,7 @@
 use mathlib.Core.Path.{_≡_, refl, sym, ap, _∙_, subst}
 use mathlib.Core.Bool.{Bool, true, false, not, cond}
 use mathlib.Core.List.{List, [], _∷_, foldl}
-use Prim.Native.Nat.{ℕ, zero, suc, _≤_, _<_}
+use Prim.Native.Nat.{ℕ, suc, _≤_, _<_}
 use native.Mathlib.Omega.{arith}
 use lib.Dec.{T}
 use lib.IntN.{pos}
@@ -39,7 +39,7 @@ module _ (shares b : List ℕ) (ss : List Direction) where
 -- at flag 0 there is no estimate
 silent : (shares : List ℕ) (d : ℕ) (b : List ℕ) → T (not (eventOf shares d b .flag)) → eventOf shares d b .next .0 ≡ pos 0
 unfolding eventOf nextOf
-silent shares d b n = at-flag (flag shares b d) (recordNumber b) (present b) (preDispatchResidue shares b d) n
+silent shares d b n = at-flag (flag shares b d) (recordNumber b) (present b) (preDispatchResidue shares b d .cents) n
   where
     at-flag : (f : Bool) (n : ℕ) (p : Bool) (r : Cents) → T (not f) → nextOf f n p r .0 ≡ pos 0
     at-flag true n p r t = absurd t

@@ -1,7 +1,7 @@
 -- How large a residue can be, from the ranges of prices, a and b.
 -- Assumes nothing.
 use mathlib.Core.Path.{_≡_, refl}
-use mathlib.Core.Bool.{Bool, true, false, cond, Bool·beq}
+use mathlib.Core.Bool.{Bool, true, false, cond}
 use mathlib.Core.List.{List}
 use Prim.Native.Nat.{ℕ, zero, suc, _+_, _*_, _≤_, _<_}
 use native.Mathlib.Omega.{arith}
@@ -14,9 +14,10 @@ use Rattle.units.specs.declared.Cents.{Cents}
 use Rattle.units.specs.declared.Grains.{Grains}
 use Rattle.units.specs.Units.{cents, lowerOfZero}
 use Rattle.rules.specs.declared.Line.{Line}
-use Rattle.rules.specs.Market.{corridor, corridorOf, reverse}
-use Rattle.rules.specs.Residue.{grainsOf, withSign, rounded, price, line, lineGrains, corridorGrains, corridorFlow, residueOf}
+use Rattle.rules.specs.Market.{corridor}
+use Rattle.rules.specs.Residue.{grainsOf, withSign, rounded, price, line, lineGrains, corridorGrains, residueOf}
 use Rattle.rules.proofs.Corridors.{over-lines-bound}
+use Rattle.rules.proofs.Laws.{of-residue}
 use Rattle.rules.proofs.RecordRanges.{Ranged}
 
 -- The other share of the losses is a share too.
@@ -39,7 +40,7 @@ with-sign-size (negsuc z) zero = refl
 with-sign-size (negsuc z) (suc n) = refl
 
 -- At most 2,400,000 times n grains are at most n cents.
-rounded-size : (g : Grains) (n : ℕ) → natAbs (g .0) ≤ 2400000 * n → natAbs (rounded g .0) ≤ n
+pub rounded-size : (g : Grains) (n : ℕ) → natAbs (g .0) ≤ 2400000 * n → natAbs (rounded g .0) ≤ n
 rounded-size g n h = rw with-sign-size (omega arith)
 
 -- An amount that is passed on or left out.
@@ -59,11 +60,8 @@ module _ (prices : List Cents) (shares : List ℕ) (lines : List Line) (A B : �
       omega arith
 
   -- a residue is of magnitude 5000 (A + B) at most, in cents
-  pub residue-size : (d : ℕ) → natAbs (residueOf prices shares lines d .0) ≤ 5000 * (A + B)
-  unfolding residueOf
-  residue-size d =
-      cond-size (Bool·beq (reverse d) (negative (corridorFlow prices shares lines (corridorOf d) .0))) (rounded (corridorGrains prices shares lines (corridorOf d))) (5000 * (A + B))
-      (rounded-size (corridorGrains prices shares lines (corridorOf d)) (5000 * (A + B)) (corridor-size (corridorOf d)))
+  pub residue-size : (d : ℕ) → natAbs (residueOf prices shares lines d .cents .0) ≤ 5000 * (A + B)
+  residue-size = of-residue prices shares lines (λ r. natAbs (r .cents .0) ≤ 5000 * (A + B)) (λ c. rounded-size (corridorGrains prices shares lines c) (5000 * (A + B)) (corridor-size c)) (omega arith)
 
 pub lower-size : (a : Cents) → natAbs (lowerOfZero a .0) ≤ natAbs (a .0)
 lower-size a = cond-size (negative (a .0)) a (natAbs (a .0)) (omega arith)

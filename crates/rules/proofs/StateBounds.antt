@@ -25,13 +25,15 @@ use Rattle.rules.specs.declared.Counts.{Counts}
 use Rattle.rules.specs.declared.Tracker.{Tracker}
 use Rattle.rules.specs.Interval.{Settings, settings, place, clearsAt, swamped, isSwamped, atHalfHourStart, cleared, grown, rule2, amount, nextOf, held, counted, statusUnbound, statusViolated, quiet, rule5, lower, higher, highestClamp, clampFrom, band, stepFor, offsetFor, rule7, sumsAfter, managedAfter, suspendedAfter, stepOf}
 use Rattle.rules.specs.History.{clearing, sinceClearing, sumNegative, sumSince, stateAfter}
-use Rattle.rules.specs.Record.{recordNumber, present, prices, lines, preDispatchPrices, preDispatchLines, flag, residue, preDispatchResidue, eventOf}
+use Rattle.rules.specs.Record.{recordNumber, present, prices, lines, preDispatchPrices, preDispatchLines, flag, preDispatchResidue, eventOf}
 use Rattle.rules.specs.Refusal.{highestNumber}
 use Rattle.rules.specs.Tracker.{Opening, firstOf, sharesOf, directionOf, rowOf}
 use Rattle.rules.specs.Claim.{awaitedAfter, accepted, history, Came}
-use Rattle.rules.specs.Bounds.{highestResidue, highestNext, highestSum, boundedPeriod, Bounds, RowBounds}
+use Rattle.rules.specs.Bounds.{highestResidue, highestNext, highestSum, WithinHalfCent, boundedPeriod, Bounds, RowBounds}
 use Rattle.rules.proofs.Accepted.{Sound}
 use Rattle.rules.proofs.RecordRanges.{interval-ranged, pre-dispatch-ranged, share-bound}
+use Rattle.rules.proofs.CentsAndGrains.{none-left}
+use Rattle.rules.proofs.Leftover.{residue-leftover}
 use Rattle.rules.proofs.ResidueBounds.{residue-size, lower-size, cond-size}
 use Rattle.rules.proofs.SumInvariant.{NonPos, none, some, nonpos-plus, nonpos-low, SumInvariant}
 use Rattle.rules.proofs.PeriodInvariant.{Span}
@@ -157,13 +159,16 @@ counted-on first (e ∷ es) t = omega (arith, counted-on first es (t .2), t .0)
 
 -- ---- of the tracker
 module _ (o : Opening) (d : ℕ) where
-  pub event-size : (b : List ℕ) → Sound (recordNumber b) b → (natAbs (eventOf (sharesOf o) d b .residue .0) ≤ highestResidue) × (natAbs (eventOf (sharesOf o) d b .next .0) ≤ highestNext)
+  pub event-size : (b : List ℕ) → Sound (recordNumber b) b
+      → (natAbs (eventOf (sharesOf o) d b .residue .0) ≤ highestResidue) × (natAbs (eventOf (sharesOf o) d b .next .0) ≤ highestNext)
+      × WithinHalfCent (eventOf (sharesOf o) d b .leftover)
   unfolding eventOf nextOf
   event-size b s =
       let shares = share-bound o in (
         residue-size (prices b) (sharesOf o) (lines b) 1000000 200000 (interval-ranged (recordNumber b) b s) shares d,
-        cond-size (flag (sharesOf o) b d && (eqb (place (recordNumber b)) 5 && present b)) (lowerOfZero (preDispatchResidue (sharesOf o) b d)) highestNext
-            (le-trans (lower-size (preDispatchResidue (sharesOf o) b d)) (residue-size (preDispatchPrices b) (sharesOf o) (preDispatchLines b) 6000000 1200000 (pre-dispatch-ranged (recordNumber b) b s) shares d)),
+        cond-size (flag (sharesOf o) b d && (eqb (place (recordNumber b)) 5 && present b)) (lowerOfZero (preDispatchResidue (sharesOf o) b d .cents)) highestNext
+            (le-trans (lower-size (preDispatchResidue (sharesOf o) b d .cents)) (residue-size (preDispatchPrices b) (sharesOf o) (preDispatchLines b) 6000000 1200000 (pre-dispatch-ranged (recordNumber b) b s) shares d)),
+        residue-leftover (prices b) (sharesOf o) (lines b) d,
       )
 
   small : (bs : List (List ℕ)) → AllSound o bs → Small highestResidue (history o d bs)
@@ -171,9 +176,9 @@ module _ (o : Opening) (d : ℕ) where
   small [] s = tt
   small (b ∷ bs) s = (event-size b (s .0) .0, small bs (s .1))
 
-  latest-size : (bs : List (List ℕ)) → AllSound o bs → (natAbs (stateAfter settings d (history o d bs) .residue .0) ≤ highestResidue) × (natAbs (stateAfter settings d (history o d bs) .next .0) ≤ highestNext)
+  latest-size : (bs : List (List ℕ)) → AllSound o bs → (natAbs (stateAfter settings d (history o d bs) .residue .0) ≤ highestResidue) × (natAbs (stateAfter settings d (history o d bs) .next .0) ≤ highestNext) × WithinHalfCent (stateAfter settings d (history o d bs) .leftover)
   unfolding history stateAfter stepOf
-  latest-size [] s = (omega arith, omega arith)
+  latest-size [] s = (omega arith, omega arith, none-left)
   latest-size (b ∷ bs) s = event-size b (s .0)
 
   state-bounds : (t : Tracker) (bs : List (List ℕ)) → Replays o t bs → Bounds (awaitedAfter o bs) (stateAfter settings d (history o d bs))
@@ -195,6 +200,7 @@ module _ (o : Opening) (d : ℕ) where
         net = le-trans (net-size settings d highestResidue es (small bs (r .sound))) most;
         residue = latest .0;
         next = latest .1;
+        leftover = latest .2;
         period = rw (← next-is o d bs) (period-size (Got settings es) (nextNumber (firstOf o) es) (stateAfter settings d es .period) (span-of settings d tt (firstOf o) es turn));
         unbound = counts .unbound;
         violated = counts .violated;
@@ -241,4 +247,5 @@ row-bounds t came d l =
       net = b .net;
       clamp = inside (b .clamp) .size;
       unsigned = sym (below-zero z) ∙ ltZ-no z (pos 0) (omega (arith, signed, b .clamp .low));
+      leftover = b .leftover;
     }

@@ -6,7 +6,7 @@ use Prim.Native.Nat.{ℕ, suc, _<_}
 use lib.Dec.{T}
 use lib.IntN.{pos}
 use lib.ListN.{length}
-use Rattle.units.specs.Units.{cents}
+use Rattle.units.specs.Units.{cents, grains}
 use Rattle.rules.specs.declared.Event.{Event}
 use Rattle.rules.specs.declared.Tracker.{Tracker}
 use Rattle.rules.specs.declared.Row.{Row}
@@ -32,11 +32,12 @@ accepted o calls = foldl (acceptCall o) [] calls
 unfoldable pub history : Opening → ℕ → List (List ℕ) → List Event
 history o d bs = map (eventOf (sharesOf o) d) bs
 
--- The row that document 01 works out: n, r, next, blocked and flag are those of the latest accepted record, the rest comes from the rules.
+-- The row that document 01 works out: n, r, next, blocked, flag and the leftover (N8) are those of the latest accepted record, the rest comes
+-- from the rules.
 -- A fresh row has n = first, its direction, the rest 0 or none, flag 1, clamp swamped.
 unfoldable pub workedRow : ℕ → ℕ → List Event → Row
-workedRow first d [] = row first d (cents (pos 0)) (cents (pos 0)) false true fresh
-workedRow first d (e ∷ es) = row (e .n) d (e .residue) (e .next) (e .blocked) (e .flag) (stateAfter settings d (e ∷ es))
+workedRow first d [] = row first d (cents (pos 0)) (cents (pos 0)) false true (grains (pos 0)) fresh
+workedRow first d (e ∷ es) = row (e .n) d (e .residue) (e .next) (e .blocked) (e .flag) (e .leftover) (stateAfter settings d (e ∷ es))
 
 -- From an opening and any list of calls, refused ones among them: the awaited number, and the row of direction d that document 01 works out.
 abbrev pub awaitedFrom : Opening → List (List ℕ) → ℕ

@@ -1,4 +1,4 @@
--- Document 01, "Figures to prove (P)", and an example of N4: one table about the definitions.
+-- Document 01, "Figures to prove (P)", an example of N4, and N8's leftover at both ends of its range: one table about the definitions.
 use mathlib.Core.Bool.{Bool, true, false}
 use mathlib.Core.List.{List, [], _∷_, _++_, map}
 use mathlib.Core.Path.{_≡_}
@@ -10,17 +10,18 @@ use Rattle.units.specs.declared.Cents.{Cents}
 use Rattle.units.specs.declared.Hundredths.{Hundredths}
 use Rattle.units.specs.Units.{cents, hundredths, grains}
 use Rattle.rules.specs.declared.Line.{Line}
+use Rattle.rules.specs.declared.Residue.{Residue}
 use Rattle.rules.specs.declared.Event.{Event}
 use Rattle.rules.specs.declared.Row.{Row}
 use Rattle.rules.specs.declared.Period.the-variants.{None, Held}
 use Rattle.rules.specs.declared.Outcome.the-variants.{Accepted}
 use Rattle.rules.specs.Market.{ofDirections}
-use Rattle.rules.specs.Residue.{intervalLine, preDispatchLine, rounded, residueOf}
+use Rattle.rules.specs.Residue.{intervalLine, preDispatchLine, rounded, inCents, noResidue, residueOf}
 use Rattle.rules.specs.Interval.{settings, amount, reached, band, stepFor, offsetFor, clampFrom, flagOf}
 use Rattle.rules.specs.History.{sumSince, stateAfter}
 use Rattle.rules.specs.Record.{residue}
 use Rattle.rules.specs.Refusal.{intervalOutcome}
-use Rattle.rules.specs.Tracker.{rowAnswer, run}
+use Rattle.rules.specs.Tracker.{residueShown, rowAnswer, run}
 
 -- All shares 500.
 abbrev pub halves : List ℕ
@@ -33,7 +34,7 @@ idle = intervalLine (hundredths (pos 0)) (hundredths (pos 0)) (hundredths (pos 0
 abbrev pub onVIC1-NSW1 : Line → Cents
 onVIC1-NSW1 l =
     let prices = cents (minus 5000) ∷ cents (pos 0) ∷ cents (pos 0) ∷ cents (pos 10000) ∷ [] in
-    residueOf prices halves (idle ∷ idle ∷ l ∷ idle ∷ idle ∷ idle ∷ []) 2
+    residueOf prices halves (idle ∷ idle ∷ l ∷ idle ∷ idle ∷ idle ∷ []) 2 .cents
 
 -- An interval with metered and target 30,000.
 abbrev pub flowing : ℤ → Line
@@ -54,12 +55,26 @@ theRecord =
 abbrev pub theRow : Row
 theRow = rowAnswer (run (record { first = 0; shares = halves }) (theRecord ∷ [])) 2 .row
 
+-- A residue of so many cents, with so many grains left over.
+abbrev pub leaving : ℤ → ℤ → Residue
+leaving z g = record { cents = cents z; leftover = grains g }
+
+-- N8's record: n = 0, all zero but the loop operating, an NSW1 price of 1, and NSW1-QLD1 and VIC1-NSW1 metered 1,200. The grains of
+-- NSW1 to QLD1 are -1,200,000, those of VIC1 to NSW1 1,200,000.
+abbrev pub halfCents : List ℕ
+halfCents = replicate 4 0 ++ (2 ∷ []) ++ replicate 11 0 ++ (1 ∷ []) ++ replicate 15 0 ++ (176 ∷ 4 ∷ []) ++ replicate 22 0 ++ (176 ∷ 4 ∷ []) ++ replicate 110 0
+
+-- The row of direction d after that record, of a tracker opened at 0.
+abbrev pub halfCentsRow : ℕ → Row
+halfCentsRow d = rowAnswer (run (record { first = 0; shares = halves }) (halfCents ∷ [])) d .row
+
 -- Interval n with residue r, under review or not: flag 1, no estimate, unbound.
 abbrev pub reviewedAt : Bool → ℕ → ℤ → Event
 reviewedAt review n r = record {
   n = n;
   flag = true;
   residue = cents r;
+  leftover = grains (pos 0);
   next = cents (pos 0);
   review = review;
   status = 0;
@@ -116,7 +131,7 @@ reaches total = reached settings (at 0 (pos 0)) (cents total)
 pub record Figures : Type 0 where
   -- P1 the case above: -375,000.
   pub P1 : onVIC1-NSW1 (flowing (pos 0)) ≡ cents (minus 375000)
-  pub P1-record : (intervalOutcome 0 theRecord ≡ Accepted) × (residue halves theRecord 2 ≡ cents (minus 375000))
+  pub P1-record : (intervalOutcome 0 theRecord ≡ Accepted) × (residue halves theRecord 2 .cents ≡ cents (minus 375000))
   pub P1-row : (theRow .amount ≡ cents (minus 375000)) × (theRow .previous ≡ cents (pos 0)) × (theRow .current ≡ cents (minus 375000)) × (theRow .applies ≡ false)
   -- P2 with losses 1,200, share 500: -377,500.
   pub P2 : onVIC1-NSW1 (flowing (pos 1200)) ≡ cents (minus 377500)
@@ -145,3 +160,8 @@ pub record Figures : Type 0 where
   pub N4-opens : (stateAfter settings 0 badHalfHour .period ≡ None) × (stateAfter settings 0 mildStart .period ≡ Held 7 17 false)
   pub N4-stands : (amountAfter mildButClose ≡ cents (minus 10000000)) × (sumSince mildButClose ≡ cents (minus 10000000))
   pub N4-cleared : (amountAfter mildHalfHour ≡ cents (pos 0)) × (sumSince mildHalfHour ≡ cents (pos 0))
+  -- N8 grains 1,200,000 leave -1,200,000; grains -1,200,000 leave 1,200,000. Rows show it, at flag 1 (direction 0) and at flag 0 (direction
+  -- 2), and 0 in the corridor's other direction.
+  pub N8-ends : (inCents (grains (pos 1200000)) ≡ leaving (pos 1) (minus 1200000)) × (inCents (grains (minus 1200000)) ≡ leaving (minus 1) (pos 1200000))
+  pub N8-rows : map (λ d. residueShown (halfCentsRow d)) (0 ∷ 1 ∷ 2 ∷ 3 ∷ []) ≡ leaving (minus 1) (pos 1200000) ∷ noResidue ∷ leaving (pos 1) (minus 1200000) ∷ noResidue ∷ []
+  pub N8-flags : (halfCentsRow 0 .flag ≡ true) × (halfCentsRow 2 .flag ≡ false)

@@ -9,7 +9,7 @@ use lib.Signed.{leZ, ltZ}
 use Rattle.signed.specs.Range.{minus, negative, eqZ}
 use Rattle.units.specs.declared.Cents.{Cents}
 use Rattle.units.specs.declared.Hundredths.{Hundredths}
-use Rattle.units.specs.Units.{cents, _+ᶜ_, lowerOfZero, hundredths, _+ʰ_}
+use Rattle.units.specs.Units.{cents, _+ᶜ_, lowerOfZero, hundredths, _+ʰ_, grains}
 use Rattle.rules.specs.declared.Event.{Event}
 use Rattle.rules.specs.declared.Sums.{Sums}
 use Rattle.rules.specs.declared.Period.{Period}
@@ -57,6 +57,7 @@ zeros clamp flag = record {
   counts = noCounts;
   suspended = false;
   residue = cents (pos 0);
+  leftover = grains (pos 0);
   next = cents (pos 0);
   blocked = false;
   flag = flag;
@@ -247,6 +248,7 @@ stepOf set d e s = record {
   counts = countsAfter set e s;
   suspended = suspendedAfter set e s;
   residue = e .residue;
+  leftover = e .leftover;
   next = e .next;
   blocked = e .blocked;
   flag = e .flag;

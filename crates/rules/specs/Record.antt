@@ -8,11 +8,13 @@ use lib.ListN.{getD}
 use Rattle.signed.specs.Range.{minus}
 use Rattle.units.specs.declared.Cents.{Cents}
 use Rattle.units.specs.declared.Hundredths.{Hundredths}
+use Rattle.units.specs.declared.Grains.{Grains}
 use Rattle.units.specs.Units.{cents, hundredths, -ʰ_}
 use Rattle.rules.specs.declared.Line.{Line}
+use Rattle.rules.specs.declared.Residue.{Residue}
 use Rattle.rules.specs.declared.Event.{Event}
 use Rattle.rules.specs.Market.{corridorOf, reverse}
-use Rattle.rules.specs.Residue.{intervalLine, preDispatchLine, overLines, residueOf}
+use Rattle.rules.specs.Residue.{intervalLine, preDispatchLine, overLines, corridorGrains, residueOf}
 use Rattle.rules.specs.Interval.{loopSum, flagOf, nextOf}
 
 -- A byte; little-endian, a u32 and an i32 (two's complement).
@@ -110,18 +112,26 @@ preDispatchLineAt b i = preDispatchLine (preDispatchFlow b i) (preDispatchLosses
 unfoldable pub preDispatchLines : List ℕ → List Line
 preDispatchLines b = ofLines (preDispatchLineAt b)
 
--- What a record says of direction d, under the shares of the opening: the interval's residue, the pre-dispatch residue, the loop flag, next,
-abbrev pub residue : List ℕ → List ℕ → ℕ → Cents
+-- The grains of corridor c under the shares of the opening: of the interval, and of the pre-dispatch half-hour (N8).
+abbrev pub grainsIn : List ℕ → List ℕ → ℕ → Grains
+grainsIn shares b c = corridorGrains (prices b) shares (lines b) c
+
+abbrev pub preDispatchGrainsIn : List ℕ → List ℕ → ℕ → Grains
+preDispatchGrainsIn shares b c = corridorGrains (preDispatchPrices b) shares (preDispatchLines b) c
+
+-- What a record says of direction d, under the shares of the opening: the interval's residue and the pre-dispatch residue, with
+-- their leftovers (N8), the loop flag, next,
+abbrev pub residue : List ℕ → List ℕ → ℕ → Residue
 residue shares b d = residueOf (prices b) shares (lines b) d
 
-abbrev pub preDispatchResidue : List ℕ → List ℕ → ℕ → Cents
+abbrev pub preDispatchResidue : List ℕ → List ℕ → ℕ → Residue
 preDispatchResidue shares b d = residueOf (preDispatchPrices b) shares (preDispatchLines b) d
 
 abbrev pub flag : List ℕ → List ℕ → ℕ → Bool
-flag shares b d = flagOf (operating b) (loopSum (residue shares b)) d
+flag shares b d = flagOf (operating b) (loopSum (λ k. residue shares b k .cents)) d
 
 abbrev pub next : List ℕ → List ℕ → ℕ → Cents
-next shares b d = nextOf (flag shares b d) (recordNumber b) (present b) (preDispatchResidue shares b d)
+next shares b d = nextOf (flag shares b d) (recordNumber b) (present b) (preDispatchResidue shares b d .cents)
 
 -- and the corridor's target sum (negated for To_From).
 abbrev pub targetSum : List ℕ → ℕ → Hundredths
@@ -133,7 +143,8 @@ unfoldable pub eventOf : List ℕ → ℕ → List ℕ → Event
 eventOf shares d b = record {
   n = recordNumber b;
   flag = flag shares b d;
-  residue = residue shares b d;
+  residue = residue shares b d .cents;
+  leftover = residue shares b d .leftover;
   next = next shares b d;
   review = reviewed b;
   status = status b d;

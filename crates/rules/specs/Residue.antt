@@ -8,8 +8,9 @@ use Rattle.signed.specs.Range.{minus, negative}
 use Rattle.units.specs.declared.Cents.{Cents}
 use Rattle.units.specs.declared.Hundredths.{Hundredths}
 use Rattle.units.specs.declared.Grains.{Grains}
-use Rattle.units.specs.Units.{cents, hundredths, grains, _+ʰ_, _×ʰ_}
+use Rattle.units.specs.Units.{cents, hundredths, grains, inGrains, _+ᶜ_, _+ʰ_, _×ʰ_, _+ᵍ_, _-ᵍ_}
 use Rattle.rules.specs.declared.Line.{Line}
+use Rattle.rules.specs.declared.Residue.{Residue}
 use Rattle.rules.specs.declared.CorridorResidue.{CorridorResidue}
 use Rattle.rules.specs.Market.{corridor, corridorOf, reverse}
 
@@ -35,6 +36,18 @@ withSign (negsuc z) n = minus n
 -- 2,400,000 grains are one cent: rounded to the nearest cent, halves away from zero.
 abbrev pub rounded : Grains → Cents
 rounded g = cents (withSign (g .0) ((natAbs (g .0) + 1200000) / 2400000))
+
+-- The rounded residue comes with its leftover, grains minus 2,400,000 × cents (N8).
+abbrev pub inCents : Grains → Residue
+inCents g = record { cents = rounded g; leftover = g -ᵍ inGrains (rounded g) }
+
+-- 0 cents, and nothing left over.
+abbrev pub noResidue : Residue
+noResidue = record { cents = cents (pos 0); leftover = grains (pos 0) }
+
+-- Forward plus reverse cents, with their leftovers, in grains (N8).
+abbrev pub together : Residue → Residue → Grains
+together forward back = inGrains (forward .cents +ᶜ back .cents) +ᵍ (forward .leftover +ᵍ back .leftover)
 
 -- The sum of f over n numbers from first on, and over the physical interconnectors of a corridor.
 abbrev pub sumFrom : ℕ → ℕ → (ℕ → ℤ) → ℤ
@@ -64,10 +77,10 @@ module _ (prices : List Cents) (shares : List ℕ) (lines : List Line) where
 
   -- then rounded. The corridor's sum of a gives the direction: zero or more is From_To, less is To_From.
   abbrev pub corridorResidue : ℕ → CorridorResidue
-  corridorResidue c = record { residue = rounded (corridorGrains c); reverse = negative (corridorFlow c .0) }
+  corridorResidue c = record { residue = inCents (corridorGrains c); reverse = negative (corridorFlow c .0) }
 
-  -- That direction's residue r is the rounded sum; the other's is 0.
-  unfoldable pub residueOf : ℕ → Cents
+  -- That direction's residue r is the rounded sum, with its leftover; the other's is 0, and so is its leftover (N8).
+  unfoldable pub residueOf : ℕ → Residue
   residueOf d =
       let r = corridorResidue (corridorOf d) in
-      cond (Bool·beq (reverse d) (r .reverse)) (r .residue) (cents (pos 0))
+      cond (Bool·beq (reverse d) (r .reverse)) (r .residue) noResidue

@@ -5,11 +5,13 @@ use Prim.Native.Nat.{ℕ, suc}
 use lib.IntN.{pos}
 use lib.ListN.{getD, replicate}
 use Rattle.units.specs.declared.Cents.{Cents}
-use Rattle.units.specs.Units.{cents, hundredths}
+use Rattle.units.specs.declared.Grains.{Grains}
+use Rattle.units.specs.Units.{cents, hundredths, grains}
 use Rattle.rules.specs.declared.Period.the-variants.{None}
 use Rattle.rules.specs.declared.Direction.{Direction}
 use Rattle.rules.specs.declared.Tracker.{Tracker}
 use Rattle.rules.specs.declared.Row.{Row}
+use Rattle.rules.specs.declared.Residue.{Residue}
 use Rattle.rules.specs.declared.Answer.{Answer}
 use Rattle.rules.specs.declared.RowAnswer.{RowAnswer}
 use Rattle.rules.specs.Market.{ofDirections}
@@ -61,9 +63,9 @@ unfoldable pub intervalOf : Tracker → List ℕ → Answer
 intervalOf t b = record { outcome = intervalOutcome (t .awaited) b; tracker = cond (accepts (t .awaited) b) (advanced t b) t }
 
 -- A row shows, of the latest accepted interval: n, direction, r, applies (1 if the clamp for n+1 is not swamped), previous, current,
--- amount, next, net, period, both counts, blocked, flag, the clamp for n+1, notice.
-abbrev pub row : ℕ → ℕ → Cents → Cents → Bool → Bool → Direction → Row
-row n d r next blocked flag s = record {
+-- amount, next, net, period, both counts, blocked, flag, the clamp for n+1, notice, and the leftover of r, at flag 0 too (N8).
+abbrev pub row : ℕ → ℕ → Cents → Cents → Bool → Bool → Grains → Direction → Row
+row n d r next blocked flag leftover s = record {
   n = n;
   direction = d;
   residue = r;
@@ -79,7 +81,12 @@ row n d r next blocked flag s = record {
   flag = flag;
   clamp = s .clamp;
   notice = s .notice;
+  leftover = leftover;
 }
+
+-- r with its leftover, as a row shows them (N8).
+abbrev pub residueShown : Row → Residue
+residueShown shown = record { cents = shown .residue; leftover = shown .leftover }
 
 abbrev pub directionOf : Tracker → ℕ → Direction
 directionOf t d = getD (t .directions) d blank
@@ -87,7 +94,7 @@ directionOf t d = getD (t .directions) d blank
 unfoldable pub rowOf : Tracker → ℕ → Row
 rowOf t d =
     let s = directionOf t d in
-    row (t .shown) d (s .residue) (s .next) (s .blocked) (s .flag) s
+    row (t .shown) d (s .residue) (s .next) (s .blocked) (s .flag) (s .leftover) s
 
 -- Row: 17 direction above 7; the row is all zeros, period none.
 abbrev pub noRow : Row
@@ -107,6 +114,7 @@ noRow = record {
   flag = false;
   clamp = hundredths (pos 0);
   notice = 0;
+  leftover = grains (pos 0);
 }
 
 unfoldable pub rowAnswer : Tracker → ℕ → RowAnswer

@@ -1,5 +1,6 @@
 // The types of the tracker, and the numbers that several crates need. Their meaning is in specs/, in document 01's order; there is no code here.
 use units::Cents;
+use units::Grains;
 use units::Hundredths;
 
 // The highest interval number.
@@ -25,9 +26,15 @@ pub struct Line {
     pub b: Hundredths,
 }
 
+// A residue in whole cents, and the part of a cent left over (N8).
+pub struct Residue {
+    pub cents: Cents,
+    pub leftover: Grains,
+}
+
 // A corridor's residue, and whether its flow is To_From.
 pub struct CorridorResidue {
-    pub residue: Cents,
+    pub residue: Residue,
     pub reverse: bool,
 }
 
@@ -37,6 +44,7 @@ pub struct Event {
     pub n: u32,
     pub flag: bool,
     pub residue: Cents,
+    pub leftover: Grains,
     pub next: Cents,
     pub review: bool,
     pub status: u8,
@@ -79,6 +87,7 @@ pub struct Direction {
     pub counts: Counts,
     pub suspended: bool,
     pub residue: Cents,
+    pub leftover: Grains,
     pub next: Cents,
     pub blocked: bool,
     pub flag: bool,
@@ -109,6 +118,7 @@ pub struct Row {
     pub flag: bool,
     pub clamp: Hundredths,
     pub notice: u8,
+    pub leftover: Grains,
 }
 
 // How a call ends: accepted, or refused under document 01's number.

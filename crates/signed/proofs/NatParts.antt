@@ -1,13 +1,14 @@
 -- A signed number as two naturals, of which one is 0: `up z` is z where z is not negative, `dn z` is -z where z is negative.
 -- `omega (arith, signed)` proves linear facts about signed numbers: the set turns each `≤ℤ`, `<ℤ`, `≡` of ℤ, `SFits` and each test `leZ`, `ltZ` in reach, and the goal, into facts about the parts.
--- Of each sum, difference, negation and magnitude its law goes into the list: `sum a b`, `diff a b`, `neg a`, `abs-is a`.
+-- Of each sum, difference, negation, multiple and magnitude its law goes into the list: `sum a b`, `diff a b`, `neg a`, `times n a`, `abs-is a`.
 -- Assumes nothing.
-use mathlib.Core.Path.{_≡_, refl, sym, ap, subst}
+use mathlib.Core.Path.{_≡_, refl, sym, ap, _∙_, subst}
 use mathlib.Core.Bool.{Bool, true, false, cond, false≢true}
-use Prim.Native.Nat.{ℕ, zero, suc, _+_, _-_, _^_, _≤_, _<_, max}
+use Prim.Native.Nat.{ℕ, zero, suc, _+_, _*_, _-_, _^_, _≤_, _<_, max}
 use native.Mathlib.Omega.{arith}
+use native.Mathlib.Nat.{mul-zero}
 use lib.Dec.{T, ltb}
-use lib.IntN.{ℤ, pos, negsuc, negℤ, natAbs, subℕ, _+ℤ_, _-ℤ_}
+use lib.IntN.{ℤ, pos, negsuc, negℤ, natAbs, subℕ, _+ℤ_, _-ℤ_, _*ℤ_}
 use lib.Signed.{mag, leZ, ltZ, _≤ℤ_, _<ℤ_}
 use mathlib.Core.Logic.{_≢_}
 use borrow.Author.Tests.{ltb-true, ltb-false, leb-true, leb-false, eqb-true, eqb-false}
@@ -125,7 +126,7 @@ sfits-by w z h = record { sfits = subst (λ (n : ℕ). n ≤ 2 ^ hbits w) (sym (
 
 pub ruleset signed = (le-is, lt-is, eq-is, leZ-is, ltZ-is, not-leZ, not-ltZ, le-by, lt-by, eq-by, leZ-yes, ltZ-yes, leZ-no, ltZ-no, sfits-by, eqZ-is, not-eqZ, eqZ-yes, eqZ-no)
 
--- ---- sums, differences: facts to list
+-- ---- sums, differences, multiples: facts to list
 sub-parts : (a b : ℕ) → up (subℕ a b) + b ≡ a + dn (subℕ a b)
 sub-parts a b = go (ltb a b) refl
   where
@@ -154,6 +155,10 @@ neg a = (up-neg a, dn-neg a)
 
 pub diff : (a b : ℤ) → up (a -ℤ b) + (dn a + up b) ≡ (up a + dn b) + dn (a -ℤ b)
 diff a b = omega (arith, sum a (negℤ b), neg b)
+
+pub times : (n : ℕ) (a : ℤ) → (up (pos n *ℤ a) ≡ n * up a) × (dn (pos n *ℤ a) ≡ n * dn a)
+times n (pos a) = (refl, sym (mul-zero n))
+times n (negsuc a) = (up-neg (pos (n * suc a)) ∙ sym (mul-zero n), dn-neg (pos (n * suc a)))
 
 -- ---- magnitude
 pub abs-by : (a : ℤ) {n : ℕ} → (up a ≤ n + dn a) × (dn a ≤ n + up a) → natAbs a ≤ n

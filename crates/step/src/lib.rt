@@ -28,6 +28,7 @@ pub fn step(d: usize, e: Event, s: Direction) -> Direction
     let target = e.target;
     let moved = clamp::rule7(d, e.blocked, target, after, suspended, net, clamp);
     let next = e.next;
+    let leftover = e.leftover;
     Direction {
         sums: sums,
         period: after,
@@ -35,6 +36,7 @@ pub fn step(d: usize, e: Event, s: Direction) -> Direction
         counts: counts,
         suspended: suspended,
         residue: residue,
+        leftover: leftover,
         next: next,
         blocked: e.blocked,
         flag: e.flag,

@@ -55,7 +55,7 @@ pub fn number(n: u64, ender: u8, out: &mut [u8], end: usize) -> usize
     digits(n, out, at)
 }
 
-// The digits of an amount or of a flow, without the unit. Private: a number is printed only as what it is, by `cents` or `hundredths`.
+// The digits of an amount, of a flow or of a leftover, without the unit. Private: a number is printed only as what it is, by `cents`, `hundredths` or `grains`.
 struct Plain(i64);
 
 impl Plain {
@@ -99,6 +99,14 @@ pub fn cents(z: units::Cents, ender: u8, out: &mut [u8], end: usize) -> usize
 
 // A clamp, in hundredths of a MW.
 pub fn hundredths(z: units::Hundredths, ender: u8, out: &mut [u8], end: usize) -> usize
+    requires { ⌜ (natAbs (z .0) ≤ highestPrinted) × RoomBefore (signedCell (z .0) ender) end (now out) ⌝ }
+    ensures { λ r. ⌜ Puts (signedCell (z .0) ender) r (now (out .entry)) end (now (out .exit)) ⌝ }
+{
+    signed(Plain(z.0), ender, out, end)
+}
+
+// A leftover, in grains (N8).
+pub fn grains(z: units::Grains, ender: u8, out: &mut [u8], end: usize) -> usize
     requires { ⌜ (natAbs (z .0) ≤ highestPrinted) × RoomBefore (signedCell (z .0) ender) end (now out) ⌝ }
     ensures { λ r. ⌜ Puts (signedCell (z .0) ender) r (now (out .entry)) end (now (out .exit)) ⌝ }
 {

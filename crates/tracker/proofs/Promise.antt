@@ -1,10 +1,10 @@
 -- Every caller meets what the calls ask: an opening gives a tracker that came from an opening and calls, and a call keeps it. With them go the
--- laws that callers need: of conditions and tests, of one call more at the end of a list, and of the rows that the calls return.
+-- laws that callers need: of ranges, conditions and tests, of one call more at the end of a list, and of the rows that the calls return.
 -- Assumes nothing.
 use mathlib.Core.Bool.{Bool, true, false, not, cond}
 use mathlib.Core.List.{List, [], _∷_, _++_}
 use mathlib.Core.Path.{_≡_, refl, sym, ap, subst, _∙_}
-use Prim.Native.Nat.{ℕ, _<_}
+use Prim.Native.Nat.{ℕ, _+_, _*_, _<_}
 use native.Mathlib.Omega.{arith}
 use borrow.Author.Tests.{le-ltb, ltb-false}
 use lib.Dec.{T, ltb}
@@ -19,11 +19,16 @@ use Rattle.rules.specs.declared.RowAnswer.{RowAnswer}
 use Rattle.rules.specs.declared.Outcome.the-variants.{Accepted, Refused}
 use Rattle.rules.specs.Bounds.{RowBounds}
 use Rattle.rules.specs.Refusal.{numberOf, isAccepted, judged, openConditions, openOutcome, intervalConditions, intervalOutcome, rowConditions, rowOutcome}
-use Rattle.rules.specs.Tracker.{Opening, firstOf, openOf, intervalOf, rowOf, noRow, rowAnswer, after, run}
+use Rattle.rules.specs.Residue.{together}
+use Rattle.rules.specs.Record.{grainsIn}
+use Rattle.rules.specs.Tracker.{Opening, firstOf, sharesOf, openOf, intervalOf, residueShown, rowOf, noRow, rowAnswer, after, run}
 use Rattle.rules.specs.History.{sumSince, estimate, underReview, liesIn}
 use Rattle.rules.specs.Claim.{accepted, history, awaitedFrom, workedFrom}
 use Rattle.rules.proofs.Came as rules
 use Rattle.rules.proofs.StateBounds.{row-bounds}
+use Rattle.rules.proofs.CentsAndGrains.{none-left}
+use Rattle.rules.proofs.Leftover.{rows-together}
+pub use Rattle.signed.proofs.Calc.{inside}
 pub use Rattle.rules.proofs.EachBelow.{both-false}
 pub use Rattle.rules.proofs.Directions.{at-direction}
 pub use Rattle.rules.proofs.Accepted.{accepted-iff, number-met}
@@ -87,6 +92,7 @@ none-bounded = record {
   net = omega arith;
   clamp = omega arith;
   unsigned = refl;
+  leftover = none-left;
 }
 
 row-bounded : (t : Tracker) → Came t → (d : ℕ) → RowBounds (rowAnswer t d .row)
@@ -148,3 +154,15 @@ module _ {t : Tracker} {d : ℕ} {r : RowAnswer} (promise : RowPromise t d r) (o
   -- The row's amount is the sum since the latest clearing interval.
   pub row-amount : r .row .amount ≡ sumSince es
   row-amount = amount-is (promise .claim o calls q (omega arith))
+
+-- Of the rows returned of a corridor's two directions: forward plus reverse cents, with their leftovers, make the corridor's grains in the latest
+-- accepted record b (N8).
+pub corridor-rows : {t : Tracker} {c : ℕ} {forward back : RowAnswer}
+    → RowPromise t (2 * c) forward
+    → RowPromise t (2 * c + 1) back
+    → c < 4
+    → (o : Opening) (calls : List (List ℕ)) → t ≡ run o calls
+    → (b : List ℕ) (bs : List (List ℕ)) → accepted o calls ≡ b ∷ bs
+    → together (residueShown (forward .row)) (residueShown (back .row)) ≡ grainsIn (sharesOf o) b c
+corridor-rows {c = c} f g below o calls q b bs latest =
+    rows-together o calls b bs latest c (f .claim o calls q (omega arith) .is-worked) (g .claim o calls q (omega arith) .is-worked)

@@ -4,7 +4,7 @@ use mathlib.Core.List.{List}
 use Prim.Native.Nat.{ℕ, _<_}
 use lib.IntN.{pos}
 use lib.ListN.{getD, replicate}
-use Rattle.units.specs.Units.{cents, hundredths}
+use Rattle.units.specs.Units.{cents, hundredths, grains}
 use Rattle.rules.specs.declared.Direction.{Direction}
 use Rattle.rules.specs.declared.Event.{Event}
 use Rattle.rules.specs.declared.Answer.{Answer}
@@ -20,6 +20,7 @@ noEvent = record {
   n = 0;
   flag = false;
   residue = cents (pos 0);
+  leftover = grains (pos 0);
   next = cents (pos 0);
   review = false;
   status = 0;

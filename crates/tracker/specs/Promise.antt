@@ -1,15 +1,16 @@
 -- What crates above the tracker may cite, and nothing else of it or of the crates that it is made of (with the laws of proofs/Promise): the words
--- of the three calls and of demand 3, and what the calls promise by them. (Crate `words`, which reads and writes bytes for all, is no part of
+-- of the three calls, of demand 3 and of N8's law on a corridor's rows, and what the calls promise by them. (Crate `words`, which reads and writes bytes for all, is no part of
 -- it.) What lies under these words is not opened from above: the tests of numbers 4 to 8, what a record says of a direction (eventOf), and
 -- what the rules make of its history (stateAfter).
 use mathlib.Core.List.{List, [], _∷_, _++_}
 use mathlib.Core.Path.{_≡_}
 use Prim.Native.Nat.{ℕ, _<_}
--- amounts and flows
+-- amounts, flows and parts of a cent
 pub use Rattle.signed.specs.Range.{minus, negative}
 pub use Rattle.units.specs.declared.Cents.{Cents}
 pub use Rattle.units.specs.declared.Hundredths.{Hundredths}
-pub use Rattle.units.specs.Units.{cents, hundredths, _+ᶜ_}
+pub use Rattle.units.specs.declared.Grains.{Grains}
+pub use Rattle.units.specs.Units.{cents, hundredths, grains, _+ᶜ_, _+ᵍ_, inGrains}
 -- what the calls take and answer
 pub use Rattle.rules.specs.declared.Tracker.{Tracker}
 pub use Rattle.rules.specs.declared.Row.{Row}
@@ -42,10 +43,15 @@ pub use Rattle.rules.specs.Interval.{Settings, settings, place, halfHour}
 unfoldable pub use Rattle.rules.specs.History.{inHalfHour, latestHalfHour, anyNegative, clearing, sinceClearing, sumNegative}
 pub use Rattle.rules.specs.History.{sumSince, estimate, underReview, gotThere, GotThereWithin, liesIn}
 pub use Rattle.rules.specs.Claim.{DirectionClaim, ClaimOf, Claim}
+-- r with its leftover, of two directions together, and a corridor's grains in a record (N8)
+pub use Rattle.rules.specs.declared.Residue.{Residue}
+pub use Rattle.rules.specs.Tracker.{residueShown}
+pub use Rattle.rules.specs.Residue.{together}
+pub use Rattle.rules.specs.Record.{grainsIn}
 -- one value for each of the eight directions
 pub use Rattle.rules.specs.Market.{ofDirections}
 -- how large the numbers of a row get
-pub use Rattle.rules.specs.Bounds.{highestResidue, highestNext, highestSum, RowBounds}
+pub use Rattle.rules.specs.Bounds.{highestResidue, highestNext, highestSum, halfCent, WithinHalfCent, RowBounds}
 
 abbrev pub opening : ℕ → List ℕ → Opening
 opening first shares = record { first = first; shares = shares }

@@ -12,6 +12,7 @@ use rules::SWAMPED;
 use rules::Sums;
 use rules::Tracker;
 use units::Cents;
+use units::Grains;
 use units::Hundredths;
 ghost use mathlib.Core.Bool.{true};
 ghost use mathlib.Core.Path.{_≡_};
@@ -56,6 +57,7 @@ fn fresh_direction() -> Direction
         counts: counts,
         suspended: false,
         residue: zero,
+        leftover: Grains(0),
         next: zero,
         blocked: false,
         flag: true,
@@ -175,6 +177,7 @@ fn row_of(t: Tracker, d: usize) -> Row
     let next = s.next;
     let period = s.period;
     let counts = s.counts;
+    let leftover = s.leftover;
     Row {
         n: t.shown,
         direction: d,
@@ -191,6 +194,7 @@ fn row_of(t: Tracker, d: usize) -> Row
         flag: s.flag,
         clamp: clamp,
         notice: s.notice,
+        leftover: leftover,
     }
 }
 
@@ -219,6 +223,7 @@ fn no_row() -> Row
         flag: false,
         clamp: Hundredths(0),
         notice: 0,
+        leftover: Grains(0),
     }
 }
 

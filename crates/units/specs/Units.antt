@@ -6,7 +6,7 @@ use Rattle.units.specs.declared.Cents.{Cents}
 use Rattle.units.specs.declared.Hundredths.{Hundredths}
 use Rattle.units.specs.declared.Grains.{Grains}
 
-infixl 6 _+ᶜ_ _+ʰ_ _+ᵍ_
+infixl 6 _+ᶜ_ _+ʰ_ _+ᵍ_ _-ᵍ_
 infixl 7 _×ʰ_
 infix 8 -ʰ_
 abbrev pub cents : ℤ → Cents
@@ -36,3 +36,10 @@ grains z = record { 0 = z }
 
 abbrev pub _+ᵍ_ : Grains → Grains → Grains
 a +ᵍ b = grains (a .0 +ℤ b .0)
+
+abbrev pub _-ᵍ_ : Grains → Grains → Grains
+a -ᵍ b = grains (a .0 -ℤ b .0)
+
+-- 2,400,000 grains are one cent
+abbrev pub inGrains : Cents → Grains
+inGrains c = grains (pos 2400000 *ℤ c .0)

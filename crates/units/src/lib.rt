@@ -5,7 +5,7 @@ ghost use lib.Signed.{leZ, ltZ};
 ghost use mir.Syntax.{w64};
 ghost use mir.Val.{SFits};
 ghost use Rattle.signed.specs.Range.{negative, eqZ, within};
-ghost use Rattle.units.specs.Units.{_+ᶜ_, _+ʰ_, _×ʰ_, -ʰ_, _+ᵍ_, lowerOfZero};
+ghost use Rattle.units.specs.Units.{_+ᶜ_, _+ʰ_, _×ʰ_, -ʰ_, _+ᵍ_, _-ᵍ_, lowerOfZero, inGrains};
 
 // A price, a residue or an amount, in cents.
 pub struct Cents(pub i64);
@@ -13,7 +13,7 @@ pub struct Cents(pub i64);
 // A flow, losses or a clamp, in hundredths of a MW.
 pub struct Hundredths(pub i64);
 
-// Parts of a cent, as the residue formula gives them: 2,400,000 grains are one cent.
+// Parts of a cent, as the residue formula gives them and rounding leaves them over (N8): 2,400,000 grains are one cent.
 pub struct Grains(pub i64);
 
 impl Cents {
@@ -63,6 +63,13 @@ impl Cents {
         ensures { λ r. ⌜ r ≡ lowerOfZero self ⌝ }
     {
         if self.is_negative() { self } else { Cents(0) }
+    }
+
+    pub fn in_grains(self) -> Grains
+        requires { ⌜ SFits w64 (pos 2400000 *ℤ self .0) ⌝ }
+        ensures { λ r. ⌜ r ≡ inGrains self ⌝ }
+    {
+        Grains(2_400_000 * self.0)
     }
 }
 
@@ -129,5 +136,12 @@ impl Grains {
         ensures { λ r. ⌜ r ≡ self +ᵍ other ⌝ }
     {
         Grains(self.0 + other.0)
+    }
+
+    pub fn minus(self, other: Grains) -> Grains
+        requires { ⌜ SFits w64 (self .0 -ℤ other .0) ⌝ }
+        ensures { λ r. ⌜ r ≡ self -ᵍ other ⌝ }
+    {
+        Grains(self.0 - other.0)
     }
 }

@@ -1,8 +1,13 @@
 -- `events::each_event` meets its contract: the eight directions in their order.
 -- Assumes nothing.
 use borrow.Author.Needs.{needs}
+use lib.Dec.{lit<}
 use Rattle.events.proofs.each_event.Statement.{statement}
 use Rattle.events.proofs.each_event.Tie as tie
+
+-- a search does not reach back over all seven calls before
+event-requires-8 : tie.Need-event-requires-8
+event-requires-8 c κs = (c .before .before .before .before .before .before .before .before .pre, lit< tt)
 
 returns : tie.Need-returns
 returns c =
@@ -34,5 +39,5 @@ each-event-spec =
     (λ c κs. search needs)
     (λ c κs. search needs)
     (λ c κs. search needs)
-    (λ c κs. search needs)
+    event-requires-8
     returns)

@@ -9,9 +9,15 @@ returns : tie.Need-returns
 unfolding eventFrom
 returns c =
     let next = c .before .before .before in
+    let ahead = next .before in
+    let leftover = ahead .before in
+    let own = leftover .before in
     rw (
       next .next .ensures,
-      next .before .before .before .flag .ensures,
+      own .before .flag .ensures,
+      own .cents-at .ensures,
+      leftover .leftover-at .ensures,
+      ahead .cents-at2 .ensures,
       c .before .before .target-sum .ensures,
       c .before .status .ensures,
       c .is-blocked .ensures,
@@ -22,10 +28,9 @@ event-spec =
     tie.close
     (tie.spec
     (λ c κs. search needs)
-    (λ c. search needs)
-    (λ c. search needs)
-    (λ c. search needs)
-    (λ c. search needs)
+    (λ c κs. search needs)
+    (λ c κs. search needs)
+    (λ c κs. search needs)
     (λ c κs. search needs)
     (λ c κs. search needs)
     (λ c κs. search needs)

@@ -1,5 +1,6 @@
 -- `residue::along` meets its contract: its test is the definition's.
 -- Assumes nothing.
+use borrow.Author.Needs.{needs}
 use Rattle.residue.proofs.along.Statement.{statement}
 use Rattle.residue.proofs.along.Tie as tie
 
@@ -7,7 +8,7 @@ returns : tie.Need-returns
 returns c = rw (c .before .if1 .taken)
 
 returns-2 : tie.Need-returns-2
-returns-2 c = rw (c .if1 .left)
+returns-2 c = rw (c .before .if1 .left) (c .no-residue .ensures)
 
 pub along-spec : {M : Type 1} → statement M
-along-spec = tie.close (tie.spec returns returns-2)
+along-spec = tie.close (tie.spec (λ c κs. search needs) returns returns-2)

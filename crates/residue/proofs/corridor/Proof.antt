@@ -19,7 +19,7 @@ use Rattle.units.specs.Units.{hundredths, grains}
 use Rattle.rules.specs.declared.Corridor.{Corridor}
 use Rattle.rules.specs.declared.CorridorResidue.{CorridorResidue}
 use Rattle.rules.specs.declared.Line.{Line}
-use Rattle.rules.specs.Residue.{grainsOf, rounded, sumFrom, price, line}
+use Rattle.rules.specs.Residue.{grainsOf, inCents, sumFrom, price, line}
 use Rattle.residue.specs.Internal.{highestGrains, highestCorridorGrains}
 use Rattle.residue.proofs.LineBounds.{line-in-range, line-small, sum-small}
 use Rattle.residue.proofs.corridor.Statement.{statement}
@@ -46,7 +46,7 @@ module _ (prices : List Cents) (shares : List ℕ) (lines : List Line) where
       let p = price prices shares lines (r .to) in
       let q = price prices shares lines (r .from) in
       record {
-        residue = rounded (grains (sumFrom (r .first) (r .lines) (grainsAt p q shares lines)));
+        residue = inCents (grains (sumFrom (r .first) (r .lines) (grainsAt p q shares lines)));
         reverse = negative (sumFrom (r .first) (r .lines) (flowAt p q shares lines));
       }
 
@@ -108,8 +108,8 @@ loop-again c =
       flow-is = rw (add-one, c .plus2 .ensures, inv .flow-is);
     }
 
-rounded-requires : tie.Need-rounded-requires Inv-loop μ-loop
-rounded-requires c κs = grains-so-far (c .before)
+in-cents-requires : tie.Need-in-cents-requires Inv-loop μ-loop
+in-cents-requires c κs = grains-so-far (c .before)
 
 returns : tie.Need-returns Inv-loop μ-loop
 returns c =
@@ -117,7 +117,7 @@ returns c =
     let a = start at .args in
     let table = at .before .before .before .corridor-at in
     let all : at .loop .j ≡ table .result .lines = omega arith in
-    rw (c .before .rounded .ensures, c .is-negative .ensures, at .loop .inv .grains-are, at .loop .inv .flow-is, all)
+    rw (c .before .in-cents .ensures, c .is-negative .ensures, at .loop .inv .grains-are, at .loop .inv .flow-is, all)
     (ap (corridorResidueOf (a .t1) (a .t2) (a .t3)) (table .ensures .is))
 
 pub corridor-spec : {M : Type 1} → statement M
@@ -143,6 +143,6 @@ corridor-spec =
     (λ c. search needs)
     loop-less
     loop-again
-    rounded-requires
+    in-cents-requires
     (λ c κs. search needs)
     returns)

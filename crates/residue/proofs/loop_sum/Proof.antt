@@ -1,89 +1,73 @@
--- `residue::loop_sum` meets its contract: each call's sum is the definition's, and six residues sum to far less than 2 ^ 63.
+-- `residue::loop_sum` meets its contract. The invariant: the sum over the first k directions of the loop.
 -- Assumes nothing.
-use mathlib.Core.Path.{_≡_, ap, _∙_}
+use mathlib.Core.Path.{_≡_, refl, _∙_}
+use mathlib.Core.List.{List}
+use Prim.Native.Nat.{ℕ, _+_, _*_, _-_, _≤_}
+use native.Mathlib.Nat.{le-trans, mul-le-mul-right}
+use native.Mathlib.Numerals.{add-one}
+use native.Mathlib.Omega.{arith}
 use borrow.Author.Needs.{needs}
-use Prim.Native.Nat.{ℕ, zero, suc, _+_, _^_}
-use native.Mathlib.Nat as N
-use lib.Dec.{T, ltb, ltb→lt}
-use lib.IntN.{pos}
+use lib.IntN.{ℤ, natAbs, +ℤ-idl}
 use lib.ListN.{getD}
-use mir.Syntax.{w64}
-use mir.Val.{SFits}
-use Rattle.signed.proofs.Calc.{Calc, val, _⊕_, meant, bound, sized, sfits-abs}
-use Rattle.units.specs.declared.Cents.{Cents}
-use Rattle.units.specs.Units.{cents, _+ᶜ_}
+use Rattle.signed.proofs.Calc.{sum-fits}
+use Rattle.units.specs.Units.{cents}
+use Rattle.rules.specs.declared.Residue.{Residue}
 use Rattle.rules.specs.Bounds.{highestNext}
+use Rattle.rules.specs.Interval.{loopSum}
+use Rattle.rules.specs.Residue.{noResidue, sumFrom}
+use Rattle.rules.proofs.Corridors.{sum-from-bound}
 use Rattle.residue.proofs.loop_sum.Statement.{statement}
 use Rattle.residue.proofs.loop_sum.Tie as tie
 
--- a sum of numbers of known magnitude fits
-sum-fits : (e : Calc) → T (ltb (bound e) (2 ^ 63)) → SFits w64 (meant e)
-sum-fits e t = sfits-abs w64 (meant e) (N.lt-of-le-of-lt (sized e) (ltb→lt (bound e) (2 ^ 63) t))
+-- the cents of direction d
+abbrev centsOf : List Residue → ℕ → ℤ
+centsOf r d = getD r d noResidue .cents .0
 
--- one residue more
-more : {s a t : Cents} (b : Cents) → s ≡ a +ᶜ b → a ≡ t → s ≡ t +ᶜ b
-more b e f = e ∙ ap (λ (x : Cents). x +ᶜ b) f
+-- the sum of the definition begins with the first
+from-the-first : (f : ℕ → ℤ) → cents (sumFrom 2 6 f) ≡ loopSum (λ d. cents (f d))
+from-the-first f = simp +ℤ-idl
 
-module _ (s : tie.Start) where
-  abbrev r : ℕ → Cents
-  r d = getD (s .args .t1) d (cents (pos 0))
+abbrev Inv-loop : tie.InvT-loop
+Inv-loop r sum₀ k₀ sum k = (k ≤ 6) × (sum ≡ cents (sumFrom 2 k (centsOf r)))
 
-  abbrev R : ℕ → Calc
-  R d = val {z = r d .0} {n = highestNext} (record { size = s .pre d })
+abbrev μ-loop : tie.MeasureT-loop
+μ-loop r sum₀ k₀ sum k = 6 - k
 
-  -- the sum over directions 2, 3 and k more
-  abbrev sumOf : ℕ → Calc
-  sumOf zero = R 2 ⊕ R 3
-  sumOf (suc k) = sumOf k ⊕ R (4 + k)
+-- what is summed when the loop's test is reached
+so-far : (c : tie.At-loop Inv-loop μ-loop) → natAbs (c .loop .sum .0) ≤ 6 * highestNext
+so-far c =
+    let k = c .loop .k in
+    rw (c .loop .inv .1) (le-trans (sum-from-bound 2 k highestNext (centsOf (c .before .args .r)) (λ d _. c .before .pre d)) (mul-le-mul-right highestNext (c .loop .inv .0)))
 
--- the start, from the second and the fourth sum
-abbrev start2 : tie.After-plus2 → tie.Start
-start2 c = c .before .before .before .before .before
+loop-holds : tie.Need-loop-holds Inv-loop μ-loop
+loop-holds c = (search needs, refl)
 
-abbrev start4 : tie.After-plus4 → tie.Start
-start4 c = start2 (c .before .before .before .before)
+plus-requires : tie.Need-plus-requires Inv-loop μ-loop
+plus-requires c κs =
+    let at = c .before .before in
+    sum-fits (at .loop .sum .0) (c .cents-at .result .0) (rw (c .cents-at .ensures) (omega (arith, so-far at, at .before .pre (2 + at .loop .k))))
 
--- they are what the calls give
-sum2 : (c : tie.After-plus2) → c .plus2 .result ≡ cents (meant (sumOf (start2 c) 1))
-sum2 c = more (r (start2 c) 4) (c .plus2 .ensures) (c .before .before .plus .ensures)
+loop-again : tie.Need-loop-again Inv-loop μ-loop
+loop-again c =
+    let at = c .before .before .before in
+    (search needs, rw (add-one (at .loop .k), c .plus .ensures, at .loop .inv .1, c .before .cents-at .ensures))
 
-sum3 : (c : tie.After-plus3) → c .plus3 .result ≡ cents (meant (sumOf (start2 (c .before .before)) 2))
-sum3 c = more (r (start2 (c .before .before)) 5) (c .plus3 .ensures) (sum2 (c .before .before))
-
-sum4 : (c : tie.After-plus4) → c .plus4 .result ≡ cents (meant (sumOf (start4 c) 3))
-sum4 c = more (r (start4 c) 6) (c .plus4 .ensures) (sum3 (c .before .before))
-
-plus-requires : tie.Need-plus-requires
-plus-requires c κs = sum-fits (sumOf (c .before .before) 0) tt
-
-plus-requires-2 : tie.Need-plus-requires-2
-plus-requires-2 c κs = rw (c .before .plus .ensures) (sum-fits (sumOf (c .before .before .before .before) 1) tt)
-
-plus-requires-3 : tie.Need-plus-requires-3
-plus-requires-3 c κs = rw (sum2 (c .before)) (sum-fits (sumOf (start2 (c .before)) 2) tt)
-
-plus-requires-4 : tie.Need-plus-requires-4
-plus-requires-4 c κs = rw (sum3 (c .before)) (sum-fits (sumOf (start2 (c .before .before .before)) 3) tt)
-
-plus-requires-5 : tie.Need-plus-requires-5
-plus-requires-5 c κs = rw (sum4 (c .before)) (sum-fits (sumOf (start4 (c .before)) 4) tt)
-
-returns : tie.Need-returns
-returns c = more (r (start4 (c .before .before)) 7) (c .plus5 .ensures) (sum4 (c .before .before))
+returns : tie.Need-returns Inv-loop μ-loop
+returns c =
+    let all : c .before .loop .k ≡ 6 = omega arith in
+    c .before .loop .inv .1 ∙ rw all (from-the-first (centsOf (c .before .before .args .r)))
 
 pub loop-sum-spec : {M : Type 1} → statement M
 loop-sum-spec =
     tie.close
     (tie.spec
+    Inv-loop
+    μ-loop
+    loop-holds
     (λ c. search needs)
-    (λ c. search needs)
+    (λ c κs. search needs)
     plus-requires
     (λ c. search needs)
-    plus-requires-2
     (λ c. search needs)
-    plus-requires-3
-    (λ c. search needs)
-    plus-requires-4
-    (λ c. search needs)
-    plus-requires-5
+    loop-again
     returns)

@@ -4,7 +4,7 @@ use mathlib.Core.Path.{_≡_, ap, _∙_}
 use mathlib.Core.List.{[], _∷_}
 use Prim.Native.Nat.{ℕ}
 use borrow.Author.Needs.{needs}
-use Rattle.units.specs.declared.Cents.{Cents}
+use Rattle.rules.specs.declared.Residue.{Residue}
 use Rattle.rules.specs.declared.CorridorResidue.{CorridorResidue}
 use Rattle.rules.specs.Market.{corridorOf, reverse}
 use Rattle.rules.specs.Residue.{corridorResidue, residueOf}
@@ -14,7 +14,7 @@ use Rattle.residue.proofs.residues.Tie as tie
 
 module _ (s : tie.Start) where
   -- what is assigned to direction d of its corridor's residue is the direction's
-  assigned-is : (d : ℕ) {v : Cents} {r : CorridorResidue}
+  assigned-is : (d : ℕ) {v : Residue} {r : CorridorResidue}
       → r ≡ corridorResidue (s .args .prices) (s .args .shares) (s .args .lines) (corridorOf d)
       → v ≡ assigned (reverse d) r
       → v ≡ residueOf (s .args .prices) (s .args .shares) (s .args .lines) d

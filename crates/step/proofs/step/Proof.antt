@@ -65,9 +65,10 @@ rule7-requires c κs =
 returns : tie.Need-returns
 unfolding stepOf
 returns c =
-    let d = c .before .before .before in
+    let moved = c .before .before in
+    let d = moved .before .before in
     let before = d .before .before .before .before .before .before in
-    rw (c .before .rule7 .ensures, suspended-is d, counts-is (d .before), managed-is (before .before), sums-is (before .before .before .before .before))
+    rw (moved .rule7 .ensures, suspended-is d, counts-is (d .before), managed-is (before .before), sums-is (before .before .before .before .before))
 
 pub step-spec : {M : Type 1} → statement M
 step-spec =

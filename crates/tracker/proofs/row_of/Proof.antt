@@ -8,7 +8,7 @@ use Rattle.tracker.proofs.row_of.Statement.{statement}
 use Rattle.tracker.proofs.row_of.Tie as tie
 
 amount-requires : tie.Need-amount-requires
-amount-requires c κs = let s = c .before .before .before .before .before .before .before .before .before .before in let b = bounds (s .args .t1) (s .pre .0) .each (s .args .d) (s .pre .1) in record { amount = omega (arith, b .amount) }
+amount-requires c κs = let s = c .before .before .before .before .before .before .before .before .before .before .before in let b = bounds (s .args .t1) (s .pre .0) .each (s .args .d) (s .pre .1) in record { amount = omega (arith, b .amount) }
 
 returns : tie.Need-returns
 unfolding rowOf
