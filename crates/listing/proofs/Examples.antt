@@ -46,8 +46,8 @@ unfolding lineOf amountsOf flatten nameOf numberCell signedCell signedOf decOf d
 the-longest = refl
 
 -- A row with another leftover.
-abbrev leaving : Grains → Row → Row
-leaving g r = record {
+abbrev withLeftover : Grains → Row → Row
+withLeftover g r = record {
   n = r .n;
   direction = r .direction;
   residue = r .residue;
@@ -67,6 +67,6 @@ leaving g r = record {
 }
 
 -- Its line is the same, and it is listed or not as before.
-pub leftover-unlisted : (g : Grains) (r : Row) → (lineOf (leaving g r) ≡ lineOf r) × (listedOf (leaving g r) ≡ listedOf r)
+pub leftover-unlisted : (g : Grains) (r : Row) → (lineOf (withLeftover g r) ≡ lineOf r) × (listedOf (withLeftover g r) ≡ listedOf r)
 unfolding lineOf amountsOf listedOf
 leftover-unlisted g r = (refl, refl)

@@ -41,7 +41,7 @@ fn print_hundredths(z: Hundredths)
     io::write_all(STDOUT_FILENO, &out[from..]);
 }
 
-// The last of a line.
+// A leftover, which ends its line.
 fn print_grains(z: Grains)
     requires { ⌜ WithinHalfCent z ⌝ }
 {
