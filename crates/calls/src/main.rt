@@ -32,7 +32,7 @@ fn no_call() {
     io::write_all(STDOUT_FILENO, b"no call\n");
 }
 
-// Document 01's number of an outcome, 0 if accepted.
+// The number of an outcome, 0 if accepted.
 fn print_outcome(outcome: Outcome, end: u8) {
     match outcome {
         Outcome::Accepted => print_number(0, end),
@@ -71,21 +71,42 @@ fn share(call: &[u8], k: usize) -> u16
     (word(call, k) % 65536) as u16
 }
 
+fn shares(call: &[u8]) -> [u16; 6]
+    requires { ⌜ length (now call) ≡ callLength ⌝ }
+{
+    [
+        share(call, 2),
+        share(call, 3),
+        share(call, 4),
+        share(call, 5),
+        share(call, 6),
+        share(call, 7),
+    ]
+}
+
 // open FIRST S0 .. S5: a refused opening too goes on with the tracker beside it.
 fn open(t: Tracker, call: &[u8]) -> Tracker
     requires { ⌜ Came t × (length (now call) ≡ callLength) ⌝ }
     ensures { λ r. ⌜ Came r ⌝ }
 {
     if shares_fit(call) {
-        let shares = [
-            share(call, 2),
-            share(call, 3),
-            share(call, 4),
-            share(call, 5),
-            share(call, 6),
-            share(call, 7),
-        ];
-        let a = tracker::open(word(call, 1), shares);
+        let a = tracker::open(word(call, 1), shares(call));
+        let outcome = a.outcome;
+        print_outcome(outcome, b'\n');
+        return a.tracker;
+    }
+    no_call();
+    t
+}
+
+// settings FIRST S0 .. S5 and 44 numbers, from word 8 on.
+fn open_with_settings(t: Tracker, call: &[u8]) -> Tracker
+    requires { ⌜ Came t × (length (now call) ≡ callLength) ⌝ }
+    ensures { λ r. ⌜ Came r ⌝ }
+{
+    if shares_fit(call) {
+        let settings = report::settings_in(&call[32..CALL]);
+        let a = tracker::open_with_settings(word(call, 1), shares(call), settings);
         let outcome = a.outcome;
         print_outcome(outcome, b'\n');
         return a.tracker;
@@ -240,6 +261,7 @@ fn run_call(t: Tracker, call: &[u8], records: &[u8]) -> Tracker
 {
     match word(call, 0) {
         0 => return open(t, call),
+        1 => return open_with_settings(t, call),
         2 => return interval(t, call, records),
         7 => row(t, call),
         8 => read(call, records),

@@ -1,25 +1,21 @@
 // Rules 5 to 7: the counts of quiet intervals, the suspension, and the clamp of one direction.
 use rules::Counts;
+use rules::DirectionSettings;
 use rules::Period;
 use rules::SWAMPED;
 use units::Cents;
 use units::Hundredths;
-ghost use mathlib.Core.Bool.{cond, _&&_};
-ghost use mathlib.Core.List.{map};
+ghost use mathlib.Core.Bool.{true, cond, _&&_};
 ghost use mathlib.Core.Path.{_≡_};
 ghost use lib.Dec.{eqb};
 ghost use Prim.Native.Nat.{_<_, _≤_};
-ghost use lib.IntN.{pos, natAbs};
-ghost use lib.ListN.{getD};
-ghost use Rattle.units.specs.Units.{hundredths};
-ghost use Rattle.clamp.specs.Internal.{widened};
-ghost use Rattle.rules.specs.Interval.{settings, isSwamped, quiet, counted, rule5, rule6, band, stepFor, lower, higher, clampFrom, rule7};
+ghost use lib.IntN.{natAbs};
+ghost use Rattle.rules.specs.Settings.{stepFor};
+ghost use Rattle.rules.specs.Interval.{isSwamped, quiet, counted, rule5, rule6, band, lower, higher, clampFrom, rule7};
+ghost use Rattle.rules.specs.Refusal.{directionOk};
 
 // No clamp is above this, unless it is swamped.
 const HIGHEST_CLAMP: Hundredths = Hundredths(1_000_000);
-
-// No clamp is below this.
-const OFFSET: Hundredths = Hundredths(2_000);
 
 // Net below this ends a suspension.
 const SUSPENSION_ENDS: Cents = Cents(-100_000);
@@ -28,19 +24,6 @@ const SUSPENSION_ENDS: Cents = Cents(-100_000);
 const UNBOUND: u8 = 0;
 
 const VIOLATED: u8 = 2;
-
-// The steps in hundredths of a MW (000, table 2): a row for each direction, in it an entry for each band of net. Each fits in 16 bits,
-// and `step_for` widens it (N5).
-const STEPS: [[i16; 4]; 8] = [
-    [-10_000, -5_000, 0, 3_000], // NSW1_QLD1
-    [-10_000, -5_000, 0, 3_000], // QLD1_NSW1
-    [-10_000, -5_000, 0, 3_000], // VIC1_NSW1
-    [-10_000, -5_000, 0, 3_000], // NSW1_VIC1
-    [-5_000, -3_000, 0, 3_000], // VIC1_SA1
-    [-3_000, -2_500, 0, 2_500], // SA1_VIC1
-    [-7_500, -4_000, 0, 3_000], // NSW1_SA1
-    [-7_500, -4_000, 0, 3_000], // SA1_NSW1
-];
 
 pub fn is_swamped(clamp: Hundredths) -> bool
     ensures { λ r. ⌜ r ≡ isSwamped clamp ⌝ }
@@ -129,51 +112,33 @@ pub fn rule6(before: bool, after: Period, net: Cents, counts: Counts, was: bool)
     false
 }
 
-// The band of net: below -5000 dollars; to below -1000; to below 1000; 1000 and up.
-fn band(net: Cents) -> u8
-    ensures { λ r. ⌜ r ≡ band settings net ⌝ }
+// The band of net: below the first edge; from it to below the second; from that to below the third; the third and up.
+fn band(edges: [Cents; 3], net: Cents) -> u8
+    ensures { λ r. ⌜ r ≡ band edges net ⌝ }
 {
-    if net.below(Cents(-500_000)) {
+    if net.below(edges[0]) {
         return 0;
     }
-    if net.below(Cents(-100_000)) {
+    if net.below(edges[1]) {
         return 1;
     }
-    if net.below(Cents(100_000)) {
+    if net.below(edges[2]) {
         return 2;
     }
     3
 }
 
-// The whole table, so that one contract speaks of all 32 entries: widened, they are document 01's.
-fn steps() -> [[i16; 4]; 8]
-    ensures { λ r. ⌜ map (map widened) r ≡ settings .steps ⌝ }
-{
-    STEPS
-}
-
-// The entry of a direction's row for a band.
-fn entry_for(row: [i16; 4], band: u8) -> i16
+// The step for a band.
+fn step_for(steps: [Hundredths; 4], band: u8) -> Hundredths
     requires { ⌜ band < 4 ⌝ }
-    ensures { λ r. ⌜ r ≡ getD row band (pos 0) ⌝ }
+    ensures { λ r. ⌜ r ≡ stepFor steps band ⌝ }
 {
     match band {
-        0 => row[0],
-        1 => row[1],
-        2 => row[2],
-        _ => row[3],
+        0 => steps[0],
+        1 => steps[1],
+        2 => steps[2],
+        _ => steps[3],
     }
-}
-
-// The step of a direction in a band, widened on reading.
-fn step_for(d: usize, band: u8) -> Hundredths
-    requires { ⌜ (d < 8) × (band < 4) ⌝ }
-    ensures { λ r. ⌜ r ≡ stepFor settings d band ⌝ }
-{
-    let table = steps();
-    let narrow = entry_for(table[d], band);
-    let wide = narrow as i64;
-    Hundredths(wide)
 }
 
 fn lower(a: Hundredths, b: Hundredths) -> Hundredths
@@ -196,18 +161,19 @@ fn base(target: Hundredths, clamp: Hundredths) -> Hundredths
 }
 
 // Base + step, at most 1,000,000, at least the offset.
-fn clamp_from(base: Hundredths, step: Hundredths) -> Hundredths
-    requires { ⌜ (natAbs (base .0) ≤ 2000000) × (natAbs (step .0) ≤ 10000) ⌝ }
-    ensures { λ r. ⌜ r ≡ clampFrom base step (hundredths (pos 2000)) ⌝ }
+fn clamp_from(base: Hundredths, step: Hundredths, offset: Hundredths) -> Hundredths
+    requires { ⌜ (natAbs (base .0) ≤ 2000000) × (natAbs (step .0) ≤ 100000) ⌝ }
+    ensures { λ r. ⌜ r ≡ clampFrom base step offset ⌝ }
 {
     let moved = base.plus(step);
     let capped = lower(moved, HIGHEST_CLAMP);
-    higher(OFFSET, capped)
+    higher(offset, capped)
 }
 
 // 7. The clamp for n+1: swamped if no period, suspended or blocked.
 pub fn rule7(
-    d: usize,
+    edges: [Cents; 3],
+    own: DirectionSettings,
     blocked: bool,
     target: Hundredths,
     period: Period,
@@ -215,8 +181,8 @@ pub fn rule7(
     net: Cents,
     clamp: Hundredths,
 ) -> Hundredths
-    requires { ⌜ (d < 8) × ((natAbs (target .0) ≤ 2000000) × (natAbs (clamp .0) ≤ 2000000)) ⌝ }
-    ensures { λ r. ⌜ r ≡ rule7 settings d blocked target period suspended net clamp ⌝ }
+    requires { ⌜ (directionOk own ≡ true) × ((natAbs (target .0) ≤ 2000000) × (natAbs (clamp .0) ≤ 2000000)) ⌝ }
+    ensures { λ r. ⌜ r ≡ rule7 edges own blocked target period suspended net clamp ⌝ }
 {
     if period::held(period) {
         if suspended {
@@ -225,8 +191,10 @@ pub fn rule7(
         if blocked {
             return SWAMPED;
         }
-        let step = step_for(d, band(net));
-        return clamp_from(base(target, clamp), step);
+        let steps = own.steps;
+        let step = step_for(steps, band(edges, net));
+        let offset = own.offset;
+        return clamp_from(base(target, clamp), step, offset);
     }
     SWAMPED
 }

@@ -1,7 +1,8 @@
 // Callers of the tracker, as another crate would write them. What they say of their own lists of calls, demand 3 and N8's law, they have from
 // what the calls promise, and from nothing else.
 use rules::Row;
-ghost use Rattle.example.specs.Own.{Own, Complete};
+use rules::Settings;
+ghost use Rattle.example.specs.Own.{Own, Tried, Complete};
 
 // The rows of VIC1_NSW1 and NSW1_VIC1.
 pub struct BothWays {
@@ -17,6 +18,16 @@ pub fn after_two(first: u32, shares: [u16; 6], earlier: &[u8], later: &[u8]) -> 
     let one = tracker::interval(opened.tracker, earlier);
     let two = tracker::interval(one.tracker, later);
     let shown = tracker::row(two.tracker, 2);
+    shown.row
+}
+
+// The row of VIC1_SA1 after a record, with settings to try.
+pub fn tried(first: u32, shares: [u16; 6], settings: Settings, bytes: &[u8]) -> Row
+    ensures { λ r. ⌜ Tried first shares settings (now (bytes .entry)) r ⌝ }
+{
+    let opened = tracker::open_with_settings(first, shares, settings);
+    let one = tracker::interval(opened.tracker, bytes);
+    let shown = tracker::row(one.tracker, 4);
     shown.row
 }
 

@@ -15,7 +15,7 @@ use Rattle.journal_rules.specs.declared.Found.the-variants.{Journal, Refused as
 use Rattle.journal_rules.specs.Journal.{readOf, recordsOf}
 use Rattle.journal_rules.specs.Journal as J
 use Rattle.journal_rules.proofs.Accept.{records-whole}
-use Rattle.tracker.specs.Promise.{Row, RowBounds, noRow, Opening, numberMet, intervalConditions, awaitedFrom, ofDirections, workedFrom}
+use Rattle.tracker.specs.Promise.{Row, RowBounds, noRow, document01, Opening, numberMet, intervalConditions, awaitedFrom, ofDirections, workedFrom}
 use Rattle.listing.specs.Line.{newline, lineOf, listedOf}
 use Rattle.listing.specs.Internal.{rowText}
 use Rattle.listing.specs.Listing.{header, eightRows, callLines, refusedLine, endedBy, runLines, openedAt, openingNumber, openedLines, recordLines, readLines, bodyLines, inputLines, linesOf, listingOf, longestLine, longestListing}
@@ -29,7 +29,7 @@ abbrev most : ℕ
 most = 288 * (8 * longestLine)
 
 -- a refusal's line: its number has at most two digits
-ended-short : (k : ℕ) → k ≤ 17 → length (flatten (endedBy k)) ≤ 11
+ended-short : (k : ℕ) → k ≤ 99 → length (flatten (endedBy k)) ≤ 11
 unfolding flatten refusedLine
 ended-short k h = simp length-append (omega (arith, short-count 1 k newline (omega arith)))
 
@@ -47,7 +47,7 @@ rows-short (r ∷ rows) bounds =
 
 -- a call's own lines and those that follow; a refusal's line is shorter than eight rows
 call-short : (m : Option ℕ)
-    → ((k : ℕ) → m ≡ some k → k ≤ 17)
+    → ((k : ℕ) → m ≡ some k → k ≤ 99)
     → (own following : List (List ℕ)) {a b : ℕ}
     → length (flatten own) ≤ a
     → length (flatten following) ≤ b
@@ -72,7 +72,7 @@ opened-short : (first : ℕ) (r : List ℕ) → J.recordCount r ≤ 288 → leng
 unfolding openedLines flatten
 opened-short first r few =
     let o = openedAt first in
-    call-short (openingNumber o) (open-number first (replicate 6 500)) [] (runLines o (J.recordCount r) [] r) {a = 0} (omega arith) (run-short o (J.recordCount r) [] r) most (omega arith) (omega arith)
+    call-short (openingNumber o) (open-number first (replicate 6 500) document01) [] (runLines o (J.recordCount r) [] r) {a = 0} (omega arith) (run-short o (J.recordCount r) [] r) most (omega arith) (omega arith)
 
 or-none : (t : Bool) (lines : List (List ℕ)) (n : ℕ) → length (flatten lines) ≤ n → length (flatten (cond t [] lines)) ≤ n
 unfolding flatten
@@ -83,7 +83,7 @@ records-short : (first : ℕ) (r : List ℕ) → J.recordCount r ≤ 288 → len
 unfolding recordLines
 records-short first r few = or-none (eqb (length r) 0) (openedLines first r) most (opened-short first r few)
 
-read-short : (f : Found) → ((k : ℕ) → f ≡ NotRead k → k ≤ 17) → (r : List ℕ) → J.recordCount r ≤ 288 → length (flatten (readLines f r)) ≤ most
+read-short : (f : Found) → ((k : ℕ) → f ≡ NotRead k → k ≤ 99) → (r : List ℕ) → J.recordCount r ≤ 288 → length (flatten (readLines f r)) ≤ most
 read-short (Journal count first last) small r few = records-short first r few
 read-short (NotRead k) small r few = let b = ended-short k (small k refl) in omega arith
 

@@ -48,12 +48,12 @@ runLines o (suc k) passed r =
     let upto = passed ++ (b ∷ []) in
     callLines (numberMet (intervalConditions (awaitedFrom o passed) b)) (eightRows (workedFrom o upto)) (runLines o k upto (drop recordLength r))
 
--- It opens at the journal's first n with all shares 500.
+-- It opens at the journal's first n with all shares 500, and gives no settings (N2).
 abbrev pub openedAt : ℕ → Opening
 openedAt first = opening first (replicate 6 500)
 
 abbrev pub openingNumber : Opening → Option ℕ
-openingNumber o = numberMet (openConditions (o .first) (o .shares))
+openingNumber o = numberMet (openConditions (o .first) (o .shares) (o .settings))
 
 -- After the opening: what the records give, or its number.
 unfoldable pub openedLines : ℕ → List ℕ → List (List ℕ)

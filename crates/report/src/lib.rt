@@ -1,14 +1,23 @@
-// Rows and numbers printed to standard output, and the files that arguments name: for the programs that the gate runs.
+// Rows and numbers printed to standard output, the files that arguments name, and settings in bytes: for the programs that the gate runs.
+use journal_rules::Found;
 use libc::STDOUT_FILENO;
+use rules::Answer;
+use rules::DirectionSettings;
+use rules::Outcome;
 use rules::Period;
+use rules::RECORD;
 use rules::Row;
+use rules::Settings;
+use rules::Tracker;
 use units::Cents;
 use units::Grains;
 use units::Hundredths;
-ghost use Prim.Native.Nat.{_≤_};
+ghost use mathlib.Core.Path.{_≡_};
+ghost use Prim.Native.Nat.{_+_, _*_, _<_, _≤_};
 ghost use lib.IntN.{natAbs};
+ghost use lib.ListN.{length};
 ghost use Rattle.io.specs.Counts.{Counts};
-ghost use Rattle.tracker.specs.Promise.{RowBounds, WithinHalfCent, highestSum};
+ghost use Rattle.tracker.specs.Promise.{Came, RowBounds, WithinHalfCent, highestSum};
 
 // A number and the byte that ends it.
 pub fn print_number(n: u64, end: u8) {
@@ -112,6 +121,126 @@ pub fn print_row(r: Row)
 pub fn print_refusal(number: u8) {
     io::write_all(STDOUT_FILENO, b"refused,");
     print_number(number as u64, b'\n');
+}
+
+// The eight rows of a tracker.
+fn print_rows(t: Tracker)
+    requires { ⌜ Came t ⌝ }
+{
+    for d in 0..8 {
+        let a = tracker::row(t, d);
+        print_row(a.row);
+    }
+}
+
+// The rows after each record in its turn, up to a refusal.
+fn run(t: Tracker, records: &[u8])
+    requires { ⌜ Came t ⌝ }
+{
+    let mut now = t;
+    let mut at = 0;
+    while records.len() - at >= RECORD {
+        let end = at + RECORD;
+        let a = tracker::interval(now, &records[at..end]);
+        let outcome = a.outcome;
+        match outcome {
+            Outcome::Refused(number) => {
+                print_refusal(number);
+                return;
+            }
+            Outcome::Accepted => {}
+        }
+        now = a.tracker;
+        print_rows(now);
+        at = end;
+    }
+}
+
+// What an opening answered, and the records after it: all rows, or its refusal.
+pub fn print_opened(opened: Answer, records: &[u8])
+    requires { ⌜ Came (opened .tracker) ⌝ }
+{
+    let outcome = opened.outcome;
+    if let Outcome::Refused(number) = outcome {
+        print_refusal(number);
+        return;
+    }
+    run(opened.tracker, records);
+}
+
+// The header of all rows, and what a read finds in a journal: a refusal is printed.
+pub fn print_found(bytes: &[u8]) -> Found {
+    io::write_all(
+        STDOUT_FILENO,
+        b"n,direction,r,applies,previous,current,amount,next,net,held,first,last,extended,",
+    );
+    io::write_all(
+        STDOUT_FILENO,
+        b"unbound,violated,blocked,flag,clamp,notice,leftover\n",
+    );
+    let found = journal::read(bytes);
+    if let Found::Refused(number) = found {
+        print_refusal(number);
+    }
+    found
+}
+
+// Number k of bytes that hold i32.
+fn int_at(bytes: &[u8], k: usize) -> i64
+    requires { ⌜ 4 * k + 4 ≤ length (now bytes) ⌝ }
+{
+    let u = words::u32_at(bytes, 4 * k) as i64;
+    if u < 2_147_483_648 {
+        return u;
+    }
+    u - 4_294_967_296
+}
+
+fn cents_at(bytes: &[u8], k: usize) -> Cents
+    requires { ⌜ 4 * k + 4 ≤ length (now bytes) ⌝ }
+{
+    Cents(int_at(bytes, k))
+}
+
+fn hundredths_at(bytes: &[u8], k: usize) -> Hundredths
+    requires { ⌜ 4 * k + 4 ≤ length (now bytes) ⌝ }
+{
+    Hundredths(int_at(bytes, k))
+}
+
+// What settings in bytes have for direction d: 32 steps, four for each, stand before the eight offsets.
+fn direction_settings_in(bytes: &[u8], d: usize) -> DirectionSettings
+    requires { ⌜ (length (now bytes) ≡ 176) × (d < 8) ⌝ }
+{
+    let steps = [
+        hundredths_at(bytes, 4 * d + 4),
+        hundredths_at(bytes, 4 * d + 5),
+        hundredths_at(bytes, 4 * d + 6),
+        hundredths_at(bytes, 4 * d + 7),
+    ];
+    let offset = hundredths_at(bytes, d + 36);
+    DirectionSettings {
+        steps: steps,
+        offset: offset,
+    }
+}
+
+// Settings as 44 i32: the threshold, three edges, the steps by direction, the offsets.
+pub fn settings_in(bytes: &[u8]) -> Settings
+    requires { ⌜ length (now bytes) ≡ 176 ⌝ }
+{
+    let threshold = cents_at(bytes, 0);
+    let edges = [cents_at(bytes, 1), cents_at(bytes, 2), cents_at(bytes, 3)];
+    let mut directions = [direction_settings_in(bytes, 0); 8];
+    for d in 1..8 {
+        let own = direction_settings_in(bytes, d);
+        directions[d] = own;
+    }
+    Settings {
+        threshold: threshold,
+        edges: edges,
+        directions: directions,
+    }
 }
 
 // Argument i of the program, which names a file, in a line of its own.

@@ -10,9 +10,10 @@ use lib.Dec.{eqb, ltb}
 use lib.ListN.{length, getD}
 use Rattle.rules.specs.declared.Outcome.{Outcome}
 use Rattle.rules.specs.declared.Outcome.the-variants.{Accepted, Refused}
+use Rattle.rules.specs.declared.Settings.{Settings}
 use Rattle.rules.specs.Interval.{place}
 use Rattle.rules.specs.Record.{recordNumber}
-use Rattle.rules.specs.Refusal.{numberOf, Condition, judged, numberMet, isAccepted, each, highestNumber, badFlags, badStatus, badPrice, badFlow, badPreDispatch, intervalConditions, intervalOutcome, shareOk, openConditions, openOutcome}
+use Rattle.rules.specs.Refusal.{numberOf, Condition, judged, numberMet, isAccepted, each, highestNumber, badFlags, badStatus, badPrice, badFlow, badPreDispatch, intervalConditions, intervalOutcome, shareOk, insideSpans, rising, openConditions, openOutcome}
 use Rattle.rules.specs.Tracker.{Opening, opens, accepts}
 use Rattle.rules.proofs.EachBelow.{both-false, each-at, each-by}
 
@@ -87,11 +88,17 @@ accepted-by awaited b s =
     let three = ap not (eq-eqb (recordNumber b) awaited (s .in-turn)) in
     none-met-by (intervalConditions awaited b) (search (one, two, three))
 
--- What it takes for an opening to be accepted: neither 9 nor 10.
+-- What it takes for settings to be accepted (N2): neither 19 nor 20.
+pub record Settled (set : Settings) : Type 0 where
+  pub inside : insideSpans set ≡ true
+  pub rises : rising (set .edges) ≡ true
+
+-- What it takes for an opening to be accepted: none of the numbers 9, 10, 19, 20.
 pub record SoundOpening (o : Opening) : Type 0 where
   pub in-range : o .first ≤ highestNumber
   pub half-hour : place (o .first) ≡ 0
   pub shares : (i : ℕ) → i < 6 → getD (o .shares) i 0 ≤ 1000
+  pub settings : Settled (o .settings)
 
 module _ (o : Opening) where
   abbrev late : Bool
@@ -101,7 +108,7 @@ module _ (o : Opening) where
   astride = not (eqb (place (o .first)) 0)
 
   abbrev conditions : List Condition
-  conditions = openConditions (o .first) (o .shares)
+  conditions = openConditions (o .first) (o .shares) (o .settings)
 
   pub opened-is : opens o ≡ true → SoundOpening o
   unfolding openOutcome openConditions
@@ -112,13 +119,16 @@ module _ (o : Opening) where
         in-range = ltb-false highestNumber (o .first) (nine .0);
         half-hour = eqb-true (place (o .first)) 0 (not-false (eqb (place (o .first)) 0) (nine .1));
         shares = λ i l. leb-true (getD (o .shares) i 0) 1000 (each-at (shareOk (o .shares)) 6 (not-false (each 6 (shareOk (o .shares))) (search)) i l);
+        settings = record { inside = not-false (insideSpans (o .settings)) (search); rises = not-false (rising (o .settings .edges)) (search) };
       }
 
   pub opened-by : SoundOpening o → opens o ≡ true
   unfolding openOutcome openConditions
   opened-by s =
       let ten = ap not (each-by (shareOk (o .shares)) 6 (λ i l. le-leb (getD (o .shares) i 0) 1000 (s .shares i l))) in
-      none-met-by conditions (search (nine, ten))
+      let nineteen = ap not (s .settings .inside) in
+      let twenty = ap not (s .settings .rises) in
+      none-met-by conditions (search (nine, ten, nineteen, twenty))
     where
       nine : (late || astride) ≡ false
       nine = simp (le-ltb highestNumber (o .first) (s .in-range), eq-eqb (place (o .first)) 0 (s .half-hour))

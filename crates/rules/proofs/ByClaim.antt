@@ -9,31 +9,30 @@ use lib.Dec.{T, not-T}
 use lib.IntN.{_+ℤ_}
 use lib.ListN.{length, drop}
 use lib.Signed.{leZ}
-use Rattle.signed.specs.Range.{minus}
 use Rattle.units.specs.Units.{_+ᶜ_}
 use Rattle.rules.specs.declared.Event.{Event}
+use Rattle.rules.specs.declared.Settings.{Settings}
 use Rattle.rules.specs.declared.Tracker.{Tracker}
 use Rattle.rules.specs.declared.Row.{Row}
-use Rattle.rules.specs.Interval.{settings}
 use Rattle.rules.specs.History.{sumSince, estimate, underReview, gotThere, liesIn}
 use Rattle.rules.specs.Record.{recordNumber, residue, flag, next, eventOf}
-use Rattle.rules.specs.Tracker.{Opening, firstOf, sharesOf, rowOf}
+use Rattle.rules.specs.Tracker.{Opening, firstOf, sharesOf, settingsOf, rowOf}
 use Rattle.rules.specs.Claim.{accepted, history, workedRow, awaitedFrom, DirectionClaim, Claim}
 
--- None of the last twelve accepted intervals of a history got there without review.
-abbrev pub NoCause : List Event → Type 0
-NoCause es = (i : ℕ) → i < 12 → i < length es → T (gotThere settings (drop i es)) → T (not (underReview (drop i es))) → ⊥
+-- None of the last twelve accepted intervals of a history got there without review, under these settings.
+abbrev pub NoCause : Settings → List Event → Type 0
+NoCause set es = (i : ℕ) → i < 12 → i < length es → T (gotThere set (drop i es)) → T (not (underReview (drop i es))) → ⊥
 
 -- Of a direction's history es, the awaited number a and a row r of which the four parts hold:
-module _ {first d : ℕ} {es : List Event} {a : ℕ} {r : Row} (claim : DirectionClaim first d es a r) where
+module _ {set : Settings} {first d : ℕ} {es : List Event} {a : ℕ} {r : Row} (claim : DirectionClaim set first d es a r) where
   -- with no cause in the last twelve the next interval does not lie in the row's period;
-  pub not-without-cause : NoCause es → T (not (liesIn a (r .period)))
+  pub not-without-cause : NoCause set es → T (not (liesIn a (r .period)))
   not-without-cause no-cause = not-T (liesIn a (r .period)) (λ inside.
       let cause = claim .caused inside in
       no-cause (cause .ago) (omega (arith, cause .recent)) (cause .accepted) (cause .got) (cause .unreviewed))
 
-  -- at -10,000,000 cents or less, and not under review, it lies in it;
-  pub clamped-at : T (leZ (sumSince es .0 +ℤ estimate es .0) (minus 10000000)) → T (not (underReview es)) → T (liesIn a (r .period))
+  -- at the threshold or less, and not under review, it lies in it;
+  pub clamped-at : T (leZ (sumSince es .0 +ℤ estimate es .0) (set .threshold .0)) → T (not (underReview es)) → T (liesIn a (r .period))
   clamped-at low unreviewed = claim .clamped low unreviewed
 
   -- and the row's amount is the sum.
@@ -48,13 +47,13 @@ module _ (o : Opening) (calls : List (List ℕ)) (t : Tracker) (claim : Claim o 
   abbrev its-row : Row
   its-row = rowOf t d
 
-  of-direction : DirectionClaim (firstOf o) d es (awaitedFrom o calls) its-row
+  of-direction : DirectionClaim (settingsOf o) (firstOf o) d es (awaitedFrom o calls) its-row
   of-direction = claim .each d (omega arith)
 
-  pub tracker-not-without-cause : NoCause es → T (not (liesIn (awaitedFrom o calls) (its-row .period)))
+  pub tracker-not-without-cause : NoCause (settingsOf o) es → T (not (liesIn (awaitedFrom o calls) (its-row .period)))
   tracker-not-without-cause = not-without-cause of-direction
 
-  pub tracker-clamped-at : T (leZ (sumSince es .0 +ℤ estimate es .0) (minus 10000000)) → T (not (underReview es)) → T (liesIn (awaitedFrom o calls) (its-row .period))
+  pub tracker-clamped-at : T (leZ (sumSince es .0 +ℤ estimate es .0) (settingsOf o .threshold .0)) → T (not (underReview es)) → T (liesIn (awaitedFrom o calls) (its-row .period))
   tracker-clamped-at = clamped-at of-direction
 
   -- Previous and current together are the sum.
@@ -67,5 +66,5 @@ module _ (o : Opening) (calls : List (List ℕ)) (t : Tracker) (claim : Claim o 
       → (its-row .n ≡ recordNumber b) × (its-row .residue ≡ residue (sharesOf o) b d .cents) × (its-row .next ≡ next (sharesOf o) b d) × (its-row .flag ≡ flag (sharesOf o) b d) × (its-row .leftover ≡ residue (sharesOf o) b d .leftover)
   unfolding history workedRow eventOf
   shows-latest b bs e =
-      let is : its-row ≡ workedRow (firstOf o) d (history o d (b ∷ bs)) = rw e at (of-direction .is-worked) in
+      let is : its-row ≡ workedRow (settingsOf o) (firstOf o) d (history o d (b ∷ bs)) = rw e at (of-direction .is-worked) in
       (ap (λ (r : Row). r .n) is, ap (λ (r : Row). r .residue) is, ap (λ (r : Row). r .next) is, ap (λ (r : Row). r .flag) is, ap (λ (r : Row). r .leftover) is)

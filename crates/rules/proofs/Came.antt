@@ -6,6 +6,8 @@ use Prim.Native.Nat.{ℕ}
 use Rattle.rules.specs.declared.Tracker.{Tracker}
 use Rattle.rules.specs.Tracker.{Opening, openOf, after, run}
 use Rattle.rules.specs.Claim.{Came, Claim, accepted}
+use Rattle.rules.proofs.Accepted.{Settled}
+use Rattle.rules.proofs.AcceptedSettings.{settled}
 use Rattle.rules.proofs.Demand.{demand3}
 use Rattle.rules.proofs.Replay.{Replays, replays}
 
@@ -32,3 +34,7 @@ claim t o calls e = rw e (demand3 o calls)
 -- such a tracker is the accepted records replayed
 pub replayed : (t : Tracker) (c : Came t) → Replays (c .opening) t (accepted (c .opening) (c .calls))
 replayed t c = rw (c .is) (replays (c .opening) (c .calls))
+
+-- and its settings are accepted ones (N2)
+pub settings-settled : (t : Tracker) → Came t → Settled (t .settings)
+settings-settled t c = rw (replayed t c .settings) (settled (c .opening))

@@ -5,12 +5,12 @@ use Rattle.rules.specs.Residue.{residueOf}
 use Rattle.rules.specs.Interval.{clearsAt, flagOf, nextOf, stepOf}
 use Rattle.rules.specs.History.{inHalfHour, latestHalfHour, anyNegative, clearing, sinceClearing, sumNegative, stateAfter}
 use Rattle.rules.specs.Record.{u32At, i32At, prices, lines, preDispatchPrices, preDispatchLines, eventOf}
-use Rattle.rules.specs.Refusal.{each, badFlags, badStatus, badPrice, badFlow, preDispatchZero, preDispatchInside, badPreDispatch, intervalConditions, intervalOutcome, openConditions, openOutcome, rowConditions, rowOutcome}
+use Rattle.rules.specs.Refusal.{each, badFlags, badStatus, badPrice, badFlow, preDispatchZero, preDispatchInside, badPreDispatch, intervalConditions, intervalOutcome, insideSpans, rising, openConditions, openOutcome, rowConditions, rowOutcome}
 use Rattle.rules.specs.Tracker.{openOf, stepAll, advanced, intervalOf, rowOf, rowAnswer, run}
 use Rattle.rules.specs.Figures.{Figures}
 
 pub figures : Figures
-unfolding residueOf clearsAt flagOf nextOf stepOf inHalfHour latestHalfHour anyNegative clearing sinceClearing sumNegative stateAfter u32At i32At prices lines preDispatchPrices preDispatchLines eventOf each badFlags badStatus badPrice badFlow preDispatchZero preDispatchInside badPreDispatch intervalConditions intervalOutcome openConditions openOutcome rowConditions rowOutcome openOf stepAll advanced intervalOf rowOf rowAnswer run
+unfolding residueOf clearsAt flagOf nextOf stepOf inHalfHour latestHalfHour anyNegative clearing sinceClearing sumNegative stateAfter u32At i32At prices lines preDispatchPrices preDispatchLines eventOf each badFlags badStatus badPrice badFlow preDispatchZero preDispatchInside badPreDispatch intervalConditions intervalOutcome insideSpans rising openConditions openOutcome rowConditions rowOutcome openOf stepAll advanced intervalOf rowOf rowAnswer run
 figures = record {
   P1 = refl;
   P1-record = (refl, refl);
@@ -33,4 +33,8 @@ figures = record {
   N8-ends = (refl, refl);
   N8-rows = refl;
   N8-flags = (refl, refl);
+  N2-at-minus-1 = (refl, refl);
+  N2-at-lowest = (refl, refl);
+  N2-bands = refl;
+  N2-clamp = (refl, refl, refl);
 }

@@ -1,8 +1,8 @@
 -- Laws that pin half-hour and place, flags, residue, loop flag and next from outside, since they serve the calls and the claim alike, so that neither
--- would show a wrong one; and rule 2's clearing.
+-- would show a wrong one; rule 2's clearing; and what ends a suspension.
 -- Assumes nothing.
 use mathlib.Core.Path.{_≡_, refl, sym, ap, ap₂, _∙_}
-use mathlib.Core.Bool.{Bool, true, false, not, cond, _&&_, Bool·beq, false≢true, and-false}
+use mathlib.Core.Bool.{Bool, true, false, not, cond, _&&_, _||_, Bool·beq, false≢true, and-false}
 use mathlib.Core.List.{List, [], _∷_, _++_, map}
 use mathlib.Core.Logic.{_↔_, _≢_}
 use Prim.Native.Nat.{ℕ, _+_, _*_, _%_, _≤_, _<_}
@@ -11,8 +11,8 @@ use borrow.Author.Tests.{le-leb, lt-leb, eq-eqb, ne-eqb}
 use lib.Dec.{eqb}
 use lib.IntN.{ℤ, pos, negsuc, _+ℤ_, _-ℤ_, _*ℤ_, +ℤ-idl, +ℤ-idr, zero-*ℤ}
 use lib.ListN.{getD, replicate}
-use lib.Signed.{_≤ℤ_}
-use Rattle.signed.specs.Range.{negative}
+use lib.Signed.{ltZ, _≤ℤ_}
+use Rattle.signed.specs.Range.{minus, negative}
 use Rattle.units.specs.declared.Cents.{Cents}
 use Rattle.units.specs.declared.Grains.{Grains}
 use Rattle.units.specs.declared.Hundredths.{Hundredths}
@@ -21,10 +21,13 @@ use Rattle.rules.specs.declared.Line.{Line}
 use Rattle.rules.specs.declared.Residue.{Residue}
 use Rattle.rules.specs.declared.Event.{Event}
 use Rattle.rules.specs.declared.Sums.{Sums}
+use Rattle.rules.specs.declared.Period.{Period}
+use Rattle.rules.specs.declared.Counts.{Counts}
 use Rattle.rules.specs.declared.Direction.{Direction}
+use Rattle.rules.specs.declared.Settings.{Settings}
 use Rattle.rules.specs.Market.{corridorOf, reverse, ofDirections}
 use Rattle.rules.specs.Residue.{grainsOf, inCents, noResidue, price, line, corridorGrains, corridorFlow, residueOf}
-use Rattle.rules.specs.Interval.{halfHour, place, clearsAt, rule1, rule2, flagOf, nextOf, sumsAfter}
+use Rattle.rules.specs.Interval.{halfHour, place, clearsAt, rule1, rule2, flagOf, nextOf, held, rule6, sumsAfter, managedAfter, countsAfter, suspendedAfter}
 use Rattle.rules.specs.Record.{recordNumber, reviewed, operating, present, status, blocked, prices, lines, preDispatchPrices, preDispatchLines, residue, preDispatchResidue, flag, next}
 
 -- ---- Interval n = 6h+q, q from 0 to 5.
@@ -91,6 +94,31 @@ previous-stands q other r s = simp (ne-eqb q 5 other, and-false)
 -- So an interval with flag 1 and q other than 5 leaves previous as rule 1 left it.
 pub interval-previous : (e : Event) (s : Direction) → e .flag ≡ true → place (e .n) ≢ 5 → sumsAfter e s .previous ≡ rule1 (e .n) (s .sums) .previous
 interval-previous e s flag other = rw flag (previous-stands (place (e .n)) other (e .residue) (rule1 (e .n) (s .sums)))
+
+-- ---- rule 6 (N2)
+module _ (before : Bool) (after : Period) (net : Cents) (counts : Counts) (was : Bool) where
+  low-ends : ltZ (net .0) (minus 100000) ≡ true → rule6 before after net counts was ≡ false
+  low-ends low = rw low (go (held after && before))
+    where
+      go : (t : Bool) → cond (not t) false false ≡ false
+      go true = refl
+      go false = refl
+
+  high-stands : ltZ (net .0) (minus 100000) ≡ false → (held after && before) ≡ true → was ≡ true → rule6 before after net counts was ≡ true
+  high-stands high still suspended = rw (still, high, suspended) (go (eqb (counts .unbound) 3 || eqb (counts .violated) 3))
+    where
+      go : (t : Bool) → cond t true true ≡ true
+      go true = refl
+      go false = refl
+
+-- The -100,000 that ends a suspension is no setting. Whatever the settings, net below it ends one; net at it or above ends none, in a period held
+-- before and still.
+module _ (set : Settings) (e : Event) (s : Direction) where
+  pub suspension-ends : ltZ (sumsAfter e s .net .0) (minus 100000) ≡ true → suspendedAfter set e s ≡ false
+  suspension-ends = low-ends (held (s .period)) (managedAfter set e s .period) (sumsAfter e s .net) (countsAfter set e s) (s .suspended)
+
+  pub suspension-stands : ltZ (sumsAfter e s .net .0) (minus 100000) ≡ false → (held (managedAfter set e s .period) && held (s .period)) ≡ true → s .suspended ≡ true → suspendedAfter set e s ≡ true
+  suspension-stands = high-stands (held (s .period)) (managedAfter set e s .period) (sumsAfter e s .net) (countsAfter set e s) (s .suspended)
 
 -- ---- r of a record: by all six shares of the opening
 pub record-residue : (shares b : List ℕ) (d : ℕ) → residue shares b d ≡ residueOf (prices b) shares (lines b) d

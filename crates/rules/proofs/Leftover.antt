@@ -14,7 +14,8 @@ use Rattle.rules.specs.declared.Event.{Event}
 use Rattle.rules.specs.declared.Direction.{Direction}
 use Rattle.rules.specs.declared.Row.{Row}
 use Rattle.rules.specs.Residue.{together, corridorGrains, residueOf}
-use Rattle.rules.specs.Interval.{Settings, stepOf}
+use Rattle.rules.specs.declared.Settings.{Settings}
+use Rattle.rules.specs.Interval.{stepOf}
 use Rattle.rules.specs.History.{stateAfter}
 use Rattle.rules.specs.Record.{prices, lines, preDispatchPrices, preDispatchLines, residue, preDispatchResidue, grainsIn, preDispatchGrainsIn, eventOf}
 use Rattle.rules.specs.Tracker.{Opening, sharesOf, residueShown}

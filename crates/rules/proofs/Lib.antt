@@ -3,6 +3,7 @@ pub mod EachBelow
 pub mod Directions
 pub mod FirstMet
 pub mod Accepted
+pub mod AcceptedSettings
 pub mod Laws
 pub mod Figures
 pub mod Corridors
@@ -17,6 +18,7 @@ pub mod OneDirection
 pub mod Replay
 pub mod Fresh
 pub mod Refusals
+pub mod SettingsRefused
 pub mod Demand
 pub mod Came
 pub mod ByClaim

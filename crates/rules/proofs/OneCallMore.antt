@@ -5,9 +5,10 @@ use mathlib.Core.List.{List, [], _∷_, _++_, foldl-append}
 use Prim.Native.Nat.{ℕ, suc}
 use Rattle.rules.specs.declared.Outcome.the-variants.{Accepted, Refused}
 use Rattle.rules.specs.declared.Event.{Event}
+use Rattle.rules.specs.declared.Settings.{Settings}
 use Rattle.rules.specs.Record.{recordNumber, eventOf}
 use Rattle.rules.specs.Refusal.{isAccepted, judged, intervalConditions, intervalOutcome}
-use Rattle.rules.specs.Tracker.{Opening, firstOf}
+use Rattle.rules.specs.Tracker.{Opening, firstOf, settingsOf}
 use Rattle.rules.specs.Claim.{awaitedAfter, acceptCall, accepted, history, workedRow, awaitedFrom, workedFrom}
 use Rattle.rules.proofs.Accepted.{accepted-is}
 
@@ -37,10 +38,10 @@ module _ (o : Opening) (calls : List (List ℕ)) (b : List ℕ) where
 
     pub shows-awaited : (d : ℕ) → workedFrom o longer d .n ≡ awaitedFrom o calls
     unfolding history workedRow eventOf
-    shows-awaited d = ap (λ (bs : List (List ℕ)). workedRow (firstOf o) d (history o d bs) .n) accepted-longer ∙ in-turn
+    shows-awaited d = ap (λ (bs : List (List ℕ)). workedRow (settingsOf o) (firstOf o) d (history o d bs) .n) accepted-longer ∙ in-turn
 
 -- a row has the direction that it is worked out for
-pub worked-direction : (first d : ℕ) (es : List Event) → workedRow first d es .direction ≡ d
+pub worked-direction : (set : Settings) (first d : ℕ) (es : List Event) → workedRow set first d es .direction ≡ d
 unfolding workedRow
-worked-direction first d [] = refl
-worked-direction first d (e ∷ es) = refl
+worked-direction set first d [] = refl
+worked-direction set first d (e ∷ es) = refl

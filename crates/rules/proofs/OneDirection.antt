@@ -1,5 +1,5 @@
 -- The claim of one direction's history: what the rules make of a list of accepted intervals, by recursion on that list, the latest first.
--- It holds at every settings whose threshold is below zero.
+-- It holds under all settings whose threshold is below zero.
 -- Assumes nothing.
 use mathlib.Core.Path.{_≡_, refl, sym, _∙_, subst}
 use mathlib.Core.Bool.{Bool, true, false, not, cond, _&&_, _||_}
@@ -17,7 +17,8 @@ use Rattle.units.specs.declared.Cents.{Cents}
 use Rattle.units.specs.Units.{cents, _+ᶜ_}
 use Rattle.rules.specs.declared.Event.{Event}
 use Rattle.rules.specs.declared.Sums.{Sums}
-use Rattle.rules.specs.Interval.{Settings, place, clearsAt, atHalfHourStart, rule1, rule2, amount, atThreshold, reached, stepOf}
+use Rattle.rules.specs.declared.Settings.{Settings}
+use Rattle.rules.specs.Interval.{place, clearsAt, atHalfHourStart, rule1, rule2, amount, atThreshold, reached, stepOf}
 use Rattle.rules.specs.History.{latestHalfHour, anyNegative, clearing, sinceClearing, sumNegative, sumSince, underReview, gotThere, liesIn, stateAfter}
 use Rattle.rules.proofs.SumInvariant.{SumInvariant, invariant-fresh, invariant-at-start, invariant-rule2, low}
 use Rattle.rules.proofs.PeriodInvariant.{Span, T-true, advance}
@@ -53,18 +54,18 @@ abbrev pub Got : Settings → List Event → ℕ → Type 0
 Got set es i = (i < length es) × T (gotThere set (drop i es)) × T (not (underReview (drop i es)))
 
 -- nothing at all does not get there: the threshold is below zero
-zero-above : (set : Settings) → T (negative (set .threshold .0)) → T (atThreshold set (cents (pos 0))) → ⊥
+zero-above : (set : Settings) → T (negative (set .threshold .0)) → T (atThreshold (set .threshold) (cents (pos 0))) → ⊥
 zero-above set below t =
     let th = set .threshold .0 in
-    let e : atThreshold set (cents (pos 0)) ≡ true = T-true (atThreshold set (cents (pos 0))) t in
+    let e : atThreshold (set .threshold) (cents (pos 0)) ≡ true = T-true (atThreshold (set .threshold) (cents (pos 0))) t in
     let n : ltZ th (pos 0) ≡ true = below-zero th ∙ T-true (negative th) below in
     omega (arith, signed)
 
 -- an interval gets there only at flag 1
-applied : (set : Settings) → T (negative (set .threshold .0)) → (flag clears v : Bool) (r next : Cents) (s : Sums) → (T (not flag) → next .0 ≡ pos 0) → T (atThreshold set (amount (rule2 flag clears r s) +ᶜ next) && not v) → T flag
+applied : (set : Settings) → T (negative (set .threshold .0)) → (flag clears v : Bool) (r next : Cents) (s : Sums) → (T (not flag) → next .0 ≡ pos 0) → T (atThreshold (set .threshold) (amount (rule2 flag clears r s) +ᶜ next) && not v) → T flag
 applied set below true clears v r next s z t = tt
 applied set below false clears v r next s z t =
-    absurd (zero-above set below (and-yes (atThreshold set (cents (pos 0))) (not v) (subst (λ (x : ℤ). T (atThreshold set (cents (pos 0 +ℤ x)) && not v)) (z tt) t) .0))
+    absurd (zero-above set below (and-yes (atThreshold (set .threshold) (cents (pos 0))) (not v) (subst (λ (x : ℤ). T (atThreshold (set .threshold) (cents (pos 0 +ℤ x)) && not v)) (z tt) t) .0))
 
 module _ (set : Settings) (d : ℕ) where
   sum-fresh : SumInvariant (sumSince [] .0) (anyNegative (latestHalfHour [])) (stateAfter set d [] .sums)
@@ -84,15 +85,15 @@ module _ (set : Settings) (d : ℕ) where
     -- one interval, and all
     step : (e : Event) (es : List Event) → InTurn first (e ∷ es) → Span (Got set es) (e .n) (stateAfter set d es .period)
         → Span (Got set (e ∷ es)) (suc (e .n)) (stateAfter set d (e ∷ es) .period)
-        × (T (reached set e (amount (stateAfter set d (e ∷ es) .sums))) → T (liesIn (suc (e .n)) (stateAfter set d (e ∷ es) .period)))
+        × (T (reached (set .threshold) e (amount (stateAfter set d (e ∷ es) .sums))) → T (liesIn (suc (e .n)) (stateAfter set d (e ∷ es) .period)))
     unfolding stateAfter stepOf
     step e es turn s =
         let old = rule1 (e .n) (stateAfter set d es .sums) in
         let sums = rule2 (e .flag) (clearsAt (place (e .n))) (e .residue) old in
-        let got : Bool = reached set e (amount sums) in
+        let got : Bool = reached (set .threshold) e (amount sums) in
         advance (Got set es) (Got set (e ∷ es)) (λ i w. (omega (arith, w .0), w .1, w .2)) (e .n) (e .flag) got (stateAfter set d es .period)
         (applied set below (e .flag) (clearsAt (place (e .n))) (e .review) (e .residue) (e .next) old (turn .1))
-        (λ t. let u : T (reached set e (sumSince (e ∷ es))) = subst (λ (z : ℤ). T (reached set e (cents z))) (sum-of first (e ∷ es) turn .total) t in
+        (λ t. let u : T (reached (set .threshold) e (sumSince (e ∷ es))) = subst (λ (z : ℤ). T (reached (set .threshold) e (cents z))) (sum-of first (e ∷ es) turn .total) t in
         let both = and-yes (gotThere set (e ∷ es)) (not (e .review)) u in (omega arith, both .0, both .1))
         s
 
@@ -105,4 +106,4 @@ module _ (set : Settings) (d : ℕ) where
     unfolding sinceClearing sumNegative
     inside-of [] t g v = absurd (zero-above set below g)
     inside-of (e ∷ es) t g v = step e es t (rw (t .0) (span-of es (t .2))) .1
-        (subst (λ (z : ℤ). T (reached set e (cents z))) (sym (sum-of first (e ∷ es) t .total)) (yes-and (gotThere set (e ∷ es)) (not (e .review)) g v))
+        (subst (λ (z : ℤ). T (reached (set .threshold) e (cents z))) (sym (sum-of first (e ∷ es) t .total)) (yes-and (gotThere set (e ∷ es)) (not (e .review)) g v))

@@ -1,4 +1,4 @@
--- Laws of the refused calls: each number as document 01 writes it, under its condition and in its order, where the vectors do not show it.
+-- Laws of the refused calls: each number as the documents write it, under its condition and in its order, where the vectors do not show it.
 -- Assumes nothing.
 use mathlib.Core.Path.{_≡_, refl}
 use mathlib.Core.Bool.{false}
@@ -9,13 +9,15 @@ use borrow.Author.Tests.{lt-ltb}
 use lib.IntN.{pos}
 use lib.ListN.{set, drop, replicate}
 use Rattle.units.specs.Units.{hundredths}
+use Rattle.rules.specs.declared.Settings.{Settings}
 use Rattle.rules.specs.declared.Tracker.{Tracker}
 use Rattle.rules.specs.declared.Outcome.{Outcome}
 use Rattle.rules.specs.declared.Outcome.the-variants.{Accepted, Refused}
 use Rattle.rules.specs.Market.{ofDirections}
+use Rattle.rules.specs.Settings.{document01}
 use Rattle.rules.specs.Record.{u32At, i32At}
-use Rattle.rules.specs.Refusal.{numberOf, Condition, each, badFlags, badStatus, badPrice, badFlow, preDispatchZero, preDispatchInside, badPreDispatch, intervalConditions, intervalOutcome, openConditions, openOutcome, rowConditions, rowOutcome}
-use Rattle.rules.specs.Tracker.{openOf, advanced, intervalOf, rowAnswer, run}
+use Rattle.rules.specs.Refusal.{numberOf, Condition, each, badFlags, badStatus, badPrice, badFlow, preDispatchZero, preDispatchInside, badPreDispatch, intervalConditions, intervalOutcome, insideSpans, rising, openConditions, openOutcome, rowConditions, rowOutcome}
+use Rattle.rules.specs.Tracker.{opening, openOf, advanced, intervalOf, rowAnswer, run}
 use Rattle.rules.specs.Figures.{halves, theRecord}
 use Rattle.rules.proofs.Fresh.{rowOfZeros}
 
@@ -40,10 +42,10 @@ one-to-eight = refl
 
 -- An opening with both faults, the first n late or within a half-hour; then with the share alone; then with none.
 abbrev opensAt : ℕ → ℕ → Outcome
-opensAt first share = openOf (record { first = first; shares = set halves 5 share }) .outcome
+opensAt first share = openOf (opening first (set halves 5 share)) .outcome
 
 pub nine-then-ten : opensAt 1051200 1001 ∷ opensAt 1 1001 ∷ opensAt 0 1001 ∷ opensAt 0 1000 ∷ [] ≡ Refused 9 ∷ Refused 9 ∷ Refused 10 ∷ Accepted ∷ []
-unfolding each openConditions openOutcome openOf
+unfolding each insideSpans rising openConditions openOutcome openOf
 nine-then-ten = refl
 
 -- ---- the numbers of the conditions, whatever is asked
@@ -54,9 +56,9 @@ pub interval-numbers : (awaited : ℕ) (b : List ℕ) → numbers (intervalCondi
 unfolding intervalConditions
 interval-numbers awaited b = refl
 
-pub open-numbers : (first : ℕ) (shares : List ℕ) → numbers (openConditions first shares) ≡ 9 ∷ 10 ∷ []
+pub open-numbers : (first : ℕ) (shares : List ℕ) (settings : Settings) → numbers (openConditions first shares settings) ≡ 9 ∷ 10 ∷ 19 ∷ 20 ∷ []
 unfolding openConditions
-open-numbers first shares = refl
+open-numbers first shares settings = refl
 
 pub row-numbers : (d : ℕ) → numbers (rowConditions d) ≡ 17 ∷ []
 unfolding rowConditions
@@ -72,10 +74,10 @@ number-of-acceptance = refl
 -- ---- the conditions, one by one; where 4 or 5 is tried, the next condition is met too
 -- Number 3, n not the awaited number (the opening's first n, then one more than the latest accepted n): what the call answers to n = 0, 1, 2.
 abbrev answersAfter : List (List ℕ) → List Outcome
-answersAfter calls = map (λ n. intervalOf (run (record { first = 0; shares = halves }) calls) (withFaults ((0, n) ∷ [])) .outcome) (0 ∷ 1 ∷ 2 ∷ [])
+answersAfter calls = map (λ n. intervalOf (run (opening 0 halves) calls) (withFaults ((0, n) ∷ [])) .outcome) (0 ∷ 1 ∷ 2 ∷ [])
 
 pub awaited-in-turn : (answersAfter [] ≡ Accepted ∷ Refused 3 ∷ Refused 3 ∷ []) × (answersAfter (theRecord ∷ []) ≡ Refused 3 ∷ Accepted ∷ Refused 3 ∷ [])
-unfolding u32At i32At each badFlags badStatus badPrice badFlow preDispatchZero preDispatchInside badPreDispatch intervalConditions intervalOutcome openConditions openOutcome openOf advanced intervalOf run
+unfolding u32At i32At each badFlags badStatus badPrice badFlow preDispatchZero preDispatchInside badPreDispatch intervalConditions intervalOutcome insideSpans rising openConditions openOutcome openOf advanced intervalOf run
 awaited-in-turn = (refl, refl)
 
 -- Number 4, each of the flag bits 3-7 set.
@@ -107,10 +109,10 @@ status-taken = refl
 
 -- Number 10, a share above 1000, of each of the six.
 abbrev shareIs : ℕ → List Outcome
-shareIs k = map (λ i. openOutcome 0 (set halves i k)) (0 ∷ 1 ∷ 2 ∷ 3 ∷ 4 ∷ 5 ∷ [])
+shareIs k = map (λ i. openOutcome 0 (set halves i k) document01) (0 ∷ 1 ∷ 2 ∷ 3 ∷ 4 ∷ 5 ∷ [])
 
 pub above-1000 : (shareIs 1000 ≡ replicate 6 Accepted) × (shareIs 1001 ≡ replicate 6 (Refused 10))
-unfolding each openConditions openOutcome
+unfolding each insideSpans rising openConditions openOutcome
 above-1000 = (refl, refl)
 
 -- Number 17, direction above 7: the row is all zeros, period none.

@@ -10,12 +10,13 @@ use lib.IntN.{pos}
 use lib.ListN.{length, getD, getD-replicate}
 use Rattle.units.specs.declared.Cents.{Cents}
 use Rattle.rules.specs.declared.Direction.{Direction}
+use Rattle.rules.specs.declared.Settings.{Settings}
 use Rattle.rules.specs.declared.Tracker.{Tracker}
-use Rattle.rules.specs.Interval.{fresh, settings, nextOf, stepOf}
+use Rattle.rules.specs.Interval.{fresh, nextOf, stepOf}
 use Rattle.rules.specs.History.{stateAfter}
 use Rattle.rules.specs.Record.{recordNumber, present, preDispatchResidue, flag, eventOf}
 use Rattle.rules.specs.Refusal.{highestNumber}
-use Rattle.rules.specs.Tracker.{Opening, opens, firstOf, sharesOf, openOf, blank, directionOf, stepAll, advanced, accepts, intervalOf, after, run}
+use Rattle.rules.specs.Tracker.{Opening, opens, firstOf, sharesOf, settingsOf, openOf, blank, directionOf, stepAll, advanced, accepts, intervalOf, after, run}
 use Rattle.rules.specs.Claim.{awaitedAfter, acceptCall, accepted, history}
 use Rattle.rules.proofs.Accepted.{Sound, accepted-is, opened-is}
 use Rattle.rules.proofs.Directions.{at-direction}
@@ -27,14 +28,14 @@ fold-keeps R f g k [] a b r = r
 fold-keeps R f g k (c ∷ l) a b r = fold-keeps R f g k l (f a c) (g b c) (k a b c r)
 
 -- the eight directions are stepped alike
-module _ (shares b : List ℕ) (ss : List Direction) where
-  eight-stepped : length (stepAll shares b ss) ≡ 8
+module _ (set : Settings) (shares b : List ℕ) (ss : List Direction) where
+  eight-stepped : length (stepAll set shares b ss) ≡ 8
   unfolding stepAll
   eight-stepped = refl
 
-  step-at : (d : ℕ) → d < 8 → getD (stepAll shares b ss) d blank ≡ stepOf settings d (eventOf shares d b) (getD ss d blank)
+  step-at : (d : ℕ) → d < 8 → getD (stepAll set shares b ss) d blank ≡ stepOf set d (eventOf shares d b) (getD ss d blank)
   unfolding stepAll
-  step-at d h = at-direction (λ d. stepOf settings d (eventOf shares d b) (getD ss d blank)) blank d h
+  step-at d h = at-direction (λ d. stepOf set d (eventOf shares d b) (getD ss d blank)) blank d h
 
 -- at flag 0 there is no estimate
 silent : (shares : List ℕ) (d : ℕ) (b : List ℕ) → T (not (eventOf shares d b .flag)) → eventOf shares d b .next .0 ≡ pos 0
@@ -66,8 +67,9 @@ module _ (o : Opening) where
     pub shows : t .shown ≡ shownAfter bs
     pub early : awaitedAfter o bs ≤ suc highestNumber
     pub shares : t .shares ≡ sharesOf o
+    pub settings : t .settings ≡ settingsOf o
     pub eight : length (t .directions) ≡ 8
-    pub each : (d : ℕ) → d < 8 → directionOf t d ≡ stateAfter settings d (history o d bs)
+    pub each : (d : ℕ) → d < 8 → directionOf t d ≡ stateAfter (settingsOf o) d (history o d bs)
     pub turns : (d : ℕ) → InTurn (firstOf o) (history o d bs)
     pub sound : AllSound bs
 
@@ -85,7 +87,7 @@ module _ (o : Opening) where
 
   pub start : Replays (openOf o .tracker) []
   unfolding openOf history stateAfter
-  start = record { awaits = refl; shows = refl; early = omega (arith, first-early); shares = refl; eight = refl; each = λ d h. getD-replicate 8 d fresh blank h; turns = λ _. tt; sound = tt }
+  start = record { awaits = refl; shows = refl; early = omega (arith, first-early); shares = refl; settings = refl; eight = refl; each = λ d h. getD-replicate 8 d fresh blank h; turns = λ _. tt; sound = tt }
 
   pub one : (t : Tracker) (bs : List (List ℕ)) (b : List ℕ) → Replays t bs → Replays (after t b) (acceptCall o bs b)
   unfolding intervalOf acceptCall history stateAfter advanced
@@ -99,8 +101,9 @@ module _ (o : Opening) where
             shows = refl;
             early = omega (arith, sound .in-range);
             shares = r .shares;
-            eight = eight-stepped (t .shares) b (t .directions);
-            each = λ d lt. rw (step-at (t .shares) b (t .directions) d lt, r .each d lt, r .shares);
+            settings = r .settings;
+            eight = eight-stepped (t .settings) (t .shares) b (t .directions);
+            each = λ d lt. rw (step-at (t .settings) (t .shares) b (t .directions) d lt, r .each d lt, r .shares, r .settings);
             turns = λ d. (event-number (sharesOf o) d b ∙ sound .in-turn ∙ r .awaits ∙ sym (next-is d bs), silent (sharesOf o) d b, r .turns d);
             sound = (subst (λ (a : ℕ). Sound a b) (sym (sound .in-turn)) sound, r .sound);
           }

@@ -4,33 +4,37 @@
 use mathlib.Core.Path.{_≡_, refl, sym, ap, _∙_}
 use mathlib.Core.Bool.{Bool, true, false, not, cond, _&&_, _||_}
 use mathlib.Core.List.{List, [], _∷_}
-use Prim.Native.Nat.{ℕ, zero, suc, _+_, _*_, _≤_, _<_}
+use Prim.Native.Nat.{ℕ, suc, _+_, _*_, _≤_, _<_}
 use native.Mathlib.Nat.{suc-mul, mul-le-mul-right, le-trans}
 use native.Mathlib.Omega.{arith}
 use lib.Dec.{eqb}
 use lib.IntN.{ℤ, pos, negsuc, natAbs, _+ℤ_, +ℤ-idl, +ℤ-idr}
-use lib.ListN.{length, getD, replicate}
+use lib.ListN.{length}
 use lib.Signed.{ltZ, leZ-yes}
 use Rattle.signed.specs.Range.{eqZ, Within}
 use Rattle.signed.proofs.NatParts.{signed, below-zero, ltZ-no}
 use Rattle.signed.proofs.Calc.{abs-add, inside}
 use Rattle.units.specs.declared.Cents.{Cents}
 use Rattle.units.specs.declared.Hundredths.{Hundredths}
-use Rattle.units.specs.Units.{hundredths, lowerOfZero, _+ʰ_}
+use Rattle.units.specs.Units.{lowerOfZero, _+ʰ_}
 use Rattle.rules.specs.declared.Event.{Event}
 use Rattle.rules.specs.declared.Sums.{Sums}
 use Rattle.rules.specs.declared.Period.{Period}
 use Rattle.rules.specs.declared.Period.the-variants.{None, Held}
 use Rattle.rules.specs.declared.Counts.{Counts}
 use Rattle.rules.specs.declared.Tracker.{Tracker}
-use Rattle.rules.specs.Interval.{Settings, settings, place, clearsAt, swamped, isSwamped, atHalfHourStart, cleared, grown, rule2, amount, nextOf, held, counted, statusUnbound, statusViolated, quiet, rule5, lower, higher, highestClamp, clampFrom, band, stepFor, offsetFor, rule7, sumsAfter, managedAfter, suspendedAfter, stepOf}
+use Rattle.rules.specs.declared.DirectionSettings.{DirectionSettings}
+use Rattle.rules.specs.declared.Settings.{Settings}
+use Rattle.rules.specs.Settings.{stepFor, ownAt}
+use Rattle.rules.specs.Interval.{place, clearsAt, swamped, isSwamped, atHalfHourStart, cleared, grown, rule2, amount, nextOf, held, counted, statusUnbound, statusViolated, quiet, rule5, lower, higher, highestClamp, clampFrom, band, rule7, sumsAfter, managedAfter, suspendedAfter, stepOf}
 use Rattle.rules.specs.History.{clearing, sinceClearing, sumNegative, sumSince, stateAfter}
 use Rattle.rules.specs.Record.{recordNumber, present, prices, lines, preDispatchPrices, preDispatchLines, flag, preDispatchResidue, eventOf}
-use Rattle.rules.specs.Refusal.{highestNumber}
-use Rattle.rules.specs.Tracker.{Opening, firstOf, sharesOf, directionOf, rowOf}
+use Rattle.rules.specs.Refusal.{highestNumber, directionOk}
+use Rattle.rules.specs.Tracker.{Opening, firstOf, sharesOf, settingsOf, directionOf, rowOf}
 use Rattle.rules.specs.Claim.{awaitedAfter, accepted, history, Came}
 use Rattle.rules.specs.Bounds.{highestResidue, highestNext, highestSum, WithinHalfCent, boundedPeriod, Bounds, RowBounds}
 use Rattle.rules.proofs.Accepted.{Sound}
+use Rattle.rules.proofs.AcceptedSettings.{settled, offset-within, threshold-below, direction-ok}
 use Rattle.rules.proofs.RecordRanges.{interval-ranged, pre-dispatch-ranged, share-bound}
 use Rattle.rules.proofs.CentsAndGrains.{none-left}
 use Rattle.rules.proofs.Leftover.{residue-leftover}
@@ -125,28 +129,26 @@ lower-most a b w = go (ltZ (a .0) (pos 1000000)) refl
 wider : {z : ℤ} → Within (pos 0) (pos 1000000) z → Within (pos 0) (pos 2000000) z
 wider w = record { low = w .low; high = omega (arith, signed, w .high) }
 
+below-cap : {z : ℤ} → Within (pos 0) (pos 100000) z → Within (pos 0) (pos 1000000) z
+below-cap w = record { low = w .low; high = omega (arith, signed, w .high) }
+
 clamp-cond : (t : Bool) (x : Hundredths) → Within (pos 0) (pos 2000000) (x .0) → Within (pos 0) (pos 2000000) (cond t swamped x .0)
 clamp-cond true x w = record { low = leZ-yes tt; high = leZ-yes tt }
 clamp-cond false x w = w
 
-module _ (set : Settings) (d : ℕ) (offset : Within (pos 0) (pos 1000000) (offsetFor set d .0)) where
-  rule7-size : (blocked : Bool) (target : Hundredths) (p : Period) (suspended : Bool) (net : Cents) (clamp : Hundredths) → Within (pos 0) (pos 2000000) (rule7 set d blocked target p suspended net clamp .0)
-  rule7-size blocked target p suspended net clamp =
-      let base = cond (isSwamped clamp) target clamp in
-      let step = stepFor set d (band set net) in
-      clamp-cond (not (held p) || (suspended || blocked)) (clampFrom base step (offsetFor set d)) (wider (lower-most (base +ʰ step) (offsetFor set d) offset))
+-- of a direction whose steps and offset are accepted
+rule7-size : (edges : List Cents) (own : DirectionSettings) → directionOk own ≡ true → (blocked : Bool) (target : Hundredths) (p : Period) (suspended : Bool) (net : Cents) (clamp : Hundredths) → Within (pos 0) (pos 2000000) (rule7 edges own blocked target p suspended net clamp .0)
+rule7-size edges own ok blocked target p suspended net clamp =
+    let base = cond (isSwamped clamp) target clamp in
+    let step = stepFor (own .steps) (band edges net) in
+    clamp-cond (not (held p) || (suspended || blocked)) (clampFrom base step (own .offset)) (wider (lower-most (base +ʰ step) (own .offset) (below-cap (offset-within own ok))))
 
-  clamp-size : (es : List Event) → Within (pos 0) (pos 2000000) (stateAfter set d es .clamp .0)
-  unfolding stateAfter stepOf
-  clamp-size [] = record { low = leZ-yes tt; high = leZ-yes tt }
-  clamp-size (e ∷ es) =
-      let s = stateAfter set d es in
-      rule7-size (e .blocked) (e .target) (managedAfter set e s .period) (suspendedAfter set e s) (sumsAfter e s .net) (s .clamp)
-
-offset-size : (k d : ℕ) → Within (pos 0) (pos 1000000) (getD (replicate k (hundredths (pos 2000))) d (hundredths (pos 0)) .0)
-offset-size zero d = record { low = leZ-yes tt; high = leZ-yes tt }
-offset-size (suc k) zero = record { low = leZ-yes tt; high = leZ-yes tt }
-offset-size (suc k) (suc d) = offset-size k d
+clamp-size : (set : Settings) (d : ℕ) → directionOk (ownAt (set .directions) d) ≡ true → (es : List Event) → Within (pos 0) (pos 2000000) (stateAfter set d es .clamp .0)
+unfolding stateAfter stepOf
+clamp-size set d ok [] = record { low = leZ-yes tt; high = leZ-yes tt }
+clamp-size set d ok (e ∷ es) =
+    let s = stateAfter set d es in
+    rule7-size (set .edges) (ownAt (set .directions) d) ok (e .blocked) (e .target) (managedAfter set e s .period) (suspendedAfter set e s) (sumsAfter e s .net) (s .clamp)
 
 -- ---- the period, and how many intervals there are
 period-size : (Was : ℕ → Type 0) (a : ℕ) (p : Period) → Span Was a p → boundedPeriod a p
@@ -176,35 +178,37 @@ module _ (o : Opening) (d : ℕ) where
   small [] s = tt
   small (b ∷ bs) s = (event-size b (s .0) .0, small bs (s .1))
 
-  latest-size : (bs : List (List ℕ)) → AllSound o bs → (natAbs (stateAfter settings d (history o d bs) .residue .0) ≤ highestResidue) × (natAbs (stateAfter settings d (history o d bs) .next .0) ≤ highestNext) × WithinHalfCent (stateAfter settings d (history o d bs) .leftover)
+  latest-size : (bs : List (List ℕ)) → AllSound o bs → (natAbs (stateAfter (settingsOf o) d (history o d bs) .residue .0) ≤ highestResidue) × (natAbs (stateAfter (settingsOf o) d (history o d bs) .next .0) ≤ highestNext) × WithinHalfCent (stateAfter (settingsOf o) d (history o d bs) .leftover)
   unfolding history stateAfter stepOf
   latest-size [] s = (omega arith, omega arith, none-left)
   latest-size (b ∷ bs) s = event-size b (s .0)
 
-  state-bounds : (t : Tracker) (bs : List (List ℕ)) → Replays o t bs → Bounds (awaitedAfter o bs) (stateAfter settings d (history o d bs))
-  state-bounds t bs r =
+  state-bounds : d < 8 → (t : Tracker) (bs : List (List ℕ)) → Replays o t bs → Bounds (awaitedAfter o bs) (stateAfter (settingsOf o) d (history o d bs))
+  state-bounds lt t bs r =
+      let set = settingsOf o in
+      let ok = settled o in
       let es = history o d bs in
       let turn = r .turns d in
-      let b : SumInvariant (sumSince es .0) _ (stateAfter settings d es .sums) = sum-of settings d (firstOf o) es turn in
+      let b : SumInvariant (sumSince es .0) _ (stateAfter set d es .sums) = sum-of set d (firstOf o) es turn in
       let few : length es ≤ suc highestNumber = omega (arith, counted-on (firstOf o) es turn, next-is o d bs, r .early) in
       let most : length es * highestResidue ≤ highestSum = mul-le-mul-right highestResidue few in
       let whole = abs-plus (b .old) (b .below) in
       let total = ap natAbs (b .total) in
       let size = sum-size highestResidue es (small bs (r .sound)) .1 in
-      let counts = counts-size settings d es in
+      let counts = counts-size set d es in
       let latest = latest-size bs (r .sound) in
       record {
         previous = omega arith;
         current = omega arith;
         amount = omega arith;
-        net = le-trans (net-size settings d highestResidue es (small bs (r .sound))) most;
+        net = le-trans (net-size set d highestResidue es (small bs (r .sound))) most;
         residue = latest .0;
         next = latest .1;
         leftover = latest .2;
-        period = rw (← next-is o d bs) (period-size (Got settings es) (nextNumber (firstOf o) es) (stateAfter settings d es .period) (span-of settings d tt (firstOf o) es turn));
+        period = rw (← next-is o d bs) (period-size (Got set es) (nextNumber (firstOf o) es) (stateAfter set d es .period) (span-of set d (threshold-below set ok) (firstOf o) es turn));
         unbound = counts .unbound;
         violated = counts .violated;
-        clamp = clamp-size settings d (offset-size 8 d) es;
+        clamp = clamp-size set d (direction-ok set ok d lt) es;
       }
 
 -- Any tracker that came from an opening and calls: its numbers, and what it keeps of each direction.
@@ -225,7 +229,7 @@ bounds t came =
     record {
       shown = rw (r .shows) (shown-size o bs (r .sound));
       awaited = rw (r .awaits) (r .early);
-      each = λ d lt. rw (r .each d lt, r .awaits) (state-bounds o d t bs r);
+      each = λ d lt. rw (r .each d lt, r .awaits) (state-bounds o d lt t bs r);
     }
 
 -- and its rows

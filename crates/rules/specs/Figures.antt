@@ -1,4 +1,5 @@
--- Document 01, "Figures to prove (P)", an example of N4, and N8's leftover at both ends of its range: one table about the definitions.
+-- Document 01, "Figures to prove (P)", an example of N4, N8's leftover at both ends of its range, and N2's settings: one table about the
+-- definitions.
 use mathlib.Core.Bool.{Bool, true, false}
 use mathlib.Core.List.{List, [], _∷_, _++_, map}
 use mathlib.Core.Path.{_≡_}
@@ -13,15 +14,17 @@ use Rattle.rules.specs.declared.Line.{Line}
 use Rattle.rules.specs.declared.Residue.{Residue}
 use Rattle.rules.specs.declared.Event.{Event}
 use Rattle.rules.specs.declared.Row.{Row}
+use Rattle.rules.specs.declared.Settings.{Settings}
 use Rattle.rules.specs.declared.Period.the-variants.{None, Held}
 use Rattle.rules.specs.declared.Outcome.the-variants.{Accepted}
 use Rattle.rules.specs.Market.{ofDirections}
 use Rattle.rules.specs.Residue.{intervalLine, preDispatchLine, rounded, inCents, noResidue, residueOf}
-use Rattle.rules.specs.Interval.{settings, amount, reached, band, stepFor, offsetFor, clampFrom, flagOf}
+use Rattle.rules.specs.Settings.{stepFor, ownAt, document01}
+use Rattle.rules.specs.Interval.{amount, reached, band, clampFrom, flagOf}
 use Rattle.rules.specs.History.{sumSince, stateAfter}
 use Rattle.rules.specs.Record.{residue}
 use Rattle.rules.specs.Refusal.{intervalOutcome}
-use Rattle.rules.specs.Tracker.{residueShown, rowAnswer, run}
+use Rattle.rules.specs.Tracker.{opening, residueShown, rowAnswer, run}
 
 -- All shares 500.
 abbrev pub halves : List ℕ
@@ -53,7 +56,7 @@ theRecord =
 
 -- The row of VIC1_NSW1 after that record, of a tracker opened at 0.
 abbrev pub theRow : Row
-theRow = rowAnswer (run (record { first = 0; shares = halves }) (theRecord ∷ [])) 2 .row
+theRow = rowAnswer (run (opening 0 halves) (theRecord ∷ [])) 2 .row
 
 -- A residue of so many cents, with so many grains left over.
 abbrev pub leaving : ℤ → ℤ → Residue
@@ -66,7 +69,7 @@ halfCents = replicate 4 0 ++ (2 ∷ []) ++ replicate 11 0 ++ (1 ∷ []) ++ repli
 
 -- The row of direction d after that record, of a tracker opened at 0.
 abbrev pub halfCentsRow : ℕ → Row
-halfCentsRow d = rowAnswer (run (record { first = 0; shares = halves }) (halfCents ∷ [])) d .row
+halfCentsRow d = rowAnswer (run (opening 0 halves) (halfCents ∷ [])) d .row
 
 -- Interval n with residue r, under review or not: flag 1, no estimate, unbound.
 abbrev pub reviewedAt : Bool → ℕ → ℤ → Event
@@ -111,11 +114,11 @@ mildHalfHour = at 11 (pos 0) ∷ mildButClose
 
 -- The amount of direction 0 after these intervals.
 abbrev pub amountAfter : List Event → Cents
-amountAfter es = amount (stateAfter settings 0 es .sums)
+amountAfter es = amount (stateAfter document01 0 es .sums)
 
 -- The step of a direction at net.
 abbrev pub stepAt : ℕ → ℤ → Hundredths
-stepAt d net = stepFor settings d (band settings (cents net))
+stepAt d net = stepFor (ownAt (document01 .directions) d .steps) (band (document01 .edges) (cents net))
 
 -- The steps of all eight at net, and the flags of directions 2-7 at a loop sum while the loop is operating.
 abbrev pub eachStep : ℤ → List Hundredths
@@ -126,7 +129,19 @@ loopFlags sum = map (λ d. flagOf true (cents sum) d) (2 ∷ 3 ∷ 4 ∷ 5 ∷ 6
 
 -- Whether a total without review is reached.
 abbrev pub reaches : ℤ → Bool
-reaches total = reached settings (at 0 (pos 0)) (cents total)
+reaches total = reached (document01 .threshold) (at 0 (pos 0)) (cents total)
+
+-- Settings (N2): document 01's but for the threshold.
+abbrev pub withThreshold : ℤ → Settings
+withThreshold z = record { threshold = cents z; edges = document01 .edges; directions = document01 .directions }
+
+-- The band of each net, of edges that are one cent apart.
+abbrev pub tightBands : List ℤ → List ℕ
+tightBands nets = map (λ z. band (cents (minus 1) ∷ cents (pos 0) ∷ cents (pos 1) ∷ []) (cents z)) nets
+
+-- The clamp from base, step and offset, in hundredths of a MW.
+abbrev pub clampOf : ℤ → ℤ → ℤ → Hundredths
+clampOf base step offset = clampFrom (hundredths base) (hundredths step) (hundredths offset)
 
 pub record Figures : Type 0 where
   -- P1 the case above: -375,000.
@@ -144,20 +159,20 @@ pub record Figures : Type 0 where
   -- P6 total -9,999,999 not reached; -10,000,000 reached.
   pub P6 : (reaches (minus 9999999) ≡ false) × (reaches (minus 10000000) ≡ true)
   -- P7 reached first at 8: period 9 to 17; again at 11: to 23.
-  pub P7 : stateAfter settings 0 until8 .period ≡ Held 9 17 false
-  pub P7-again : stateAfter settings 0 (at 11 (pos 0) ∷ at 10 (pos 0) ∷ at 9 (pos 0) ∷ until8) .period ≡ Held 9 23 true
+  pub P7 : stateAfter document01 0 until8 .period ≡ Held 9 17 false
+  pub P7-again : stateAfter document01 0 (at 11 (pos 0) ∷ at 10 (pos 0) ∷ at 9 (pos 0) ∷ until8) .period ≡ Held 9 23 true
   -- P8 reached first at 11: 12 to 17.
-  pub P8 : stateAfter settings 0 until11 .period ≡ Held 12 17 false
+  pub P8 : stateAfter document01 0 until11 .period ≡ Held 12 17 false
   -- P9 direction 4, net -500,000: step -3,000; -500,001: -5,000.
   pub P9 : (stepAt 4 (minus 500000) ≡ hundredths (minus 3000)) × (stepAt 4 (minus 500001) ≡ hundredths (minus 5000))
   -- P10 net -100,000 and 99,999: 0.
   pub P10 : (eachStep (minus 100000) ≡ replicate 8 (hundredths (pos 0))) × (eachStep (pos 99999) ≡ replicate 8 (hundredths (pos 0)))
   -- P11 base 5,000, step -10,000: 2,000.
-  pub P11 : clampFrom (hundredths (pos 5000)) (hundredths (minus 10000)) (offsetFor settings 0) ≡ hundredths (pos 2000)
+  pub P11 : clampFrom (hundredths (pos 5000)) (hundredths (minus 10000)) (ownAt (document01 .directions) 0 .offset) ≡ hundredths (pos 2000)
   -- P12 loop sum 0: flag 0; -1: flag 1.
   pub P12 : (loopFlags (pos 0) ≡ replicate 6 false) × (loopFlags (minus 1) ≡ replicate 6 true)
   -- N4 a mild start clears nothing: the old sum stands, and a period may open there. It stands until the half-hour's close, which clears it.
-  pub N4-opens : (stateAfter settings 0 badHalfHour .period ≡ None) × (stateAfter settings 0 mildStart .period ≡ Held 7 17 false)
+  pub N4-opens : (stateAfter document01 0 badHalfHour .period ≡ None) × (stateAfter document01 0 mildStart .period ≡ Held 7 17 false)
   pub N4-stands : (amountAfter mildButClose ≡ cents (minus 10000000)) × (sumSince mildButClose ≡ cents (minus 10000000))
   pub N4-cleared : (amountAfter mildHalfHour ≡ cents (pos 0)) × (sumSince mildHalfHour ≡ cents (pos 0))
   -- N8 grains 1,200,000 leave -1,200,000; grains -1,200,000 leave 1,200,000. Rows show it, at flag 1 (direction 0) and at flag 0 (direction
@@ -165,3 +180,11 @@ pub record Figures : Type 0 where
   pub N8-ends : (inCents (grains (pos 1200000)) ≡ leaving (pos 1) (minus 1200000)) × (inCents (grains (minus 1200000)) ≡ leaving (minus 1) (pos 1200000))
   pub N8-rows : map (λ d. residueShown (halfCentsRow d)) (0 ∷ 1 ∷ 2 ∷ 3 ∷ []) ≡ leaving (minus 1) (pos 1200000) ∷ noResidue ∷ leaving (pos 1) (minus 1200000) ∷ noResidue ∷ []
   pub N8-flags : (halfCentsRow 0 .flag ≡ true) × (halfCentsRow 2 .flag ≡ false)
+  -- N2 at the threshold -1 an amount of -1 opens a period, and 0 does not; at the threshold -1,000,000,000 an amount of -999,999,999 opens none, and
+  -- -1,000,000,000 does.
+  pub N2-at-minus-1 : (stateAfter (withThreshold (minus 1)) 0 (at 6 (minus 1) ∷ []) .period ≡ Held 7 17 false) × (stateAfter (withThreshold (minus 1)) 0 (at 6 (pos 0) ∷ []) .period ≡ None)
+  pub N2-at-lowest : (stateAfter (withThreshold (minus 1000000000)) 0 (at 6 (minus 999999999) ∷ []) .period ≡ None) × (stateAfter (withThreshold (minus 1000000000)) 0 (at 6 (minus 1000000000) ∷ []) .period ≡ Held 7 17 false)
+  -- Edges one cent apart make four bands.
+  pub N2-bands : tightBands (minus 2 ∷ minus 1 ∷ pos 0 ∷ pos 1 ∷ []) ≡ 0 ∷ 1 ∷ 2 ∷ 3 ∷ []
+  -- The widest steps: down to an offset of 0, and of 100,000; up to the cap.
+  pub N2-clamp : (clampOf (pos 5000) (minus 100000) (pos 0) ≡ hundredths (pos 0)) × (clampOf (pos 5000) (minus 100000) (pos 100000) ≡ hundredths (pos 100000)) × (clampOf (pos 999999) (pos 100000) (pos 0) ≡ hundredths (pos 1000000))

@@ -14,7 +14,8 @@ use Rattle.rules.specs.declared.Event.{Event}
 use Rattle.rules.specs.declared.Period.{Period}
 use Rattle.rules.specs.declared.Period.the-variants.{None, Held}
 use Rattle.rules.specs.declared.Direction.{Direction}
-use Rattle.rules.specs.Interval.{Settings, halfHour, place, fresh, stepOf}
+use Rattle.rules.specs.declared.Settings.{Settings}
+use Rattle.rules.specs.Interval.{halfHour, place, fresh, stepOf}
 
 -- The intervals of half-hour h, and those of the latest interval's half-hour up to and including itself.
 unfoldable pub inHalfHour : ℕ → List Event → List Event
@@ -58,7 +59,7 @@ abbrev pub underReview : List Event → Bool
 underReview [] = false
 underReview (e ∷ es) = e .review
 
--- An interval got there if sum plus estimate after it are at or below the threshold of rule 3.
+-- An interval got there if sum plus estimate after it are at or below the threshold of rule 3, which is the settings' (N2).
 abbrev pub gotThere : Settings → List Event → Bool
 gotThere set es = leZ ((sumSince es +ᶜ estimate es) .0) (set .threshold .0)
 

@@ -1,10 +1,9 @@
--- Document 01, "One interval of one direction": rules 1 to 7, and the steps.
+-- Document 01, "One interval of one direction": rules 1 to 7.
 use mathlib.Core.Bool.{Bool, true, false, not, cond, _&&_, _||_}
-use mathlib.Core.List.{List, [], _∷_}
+use mathlib.Core.List.{List}
 use Prim.Native.Nat.{ℕ, suc, _+_, _*_, _/_, _%_, min}
 use lib.Dec.{eqb}
-use lib.IntN.{ℤ, pos, _*ℤ_}
-use lib.ListN.{getD, replicate}
+use lib.IntN.{pos}
 use lib.Signed.{leZ, ltZ}
 use Rattle.signed.specs.Range.{minus, negative, eqZ}
 use Rattle.units.specs.declared.Cents.{Cents}
@@ -17,16 +16,10 @@ use Rattle.rules.specs.declared.Period.the-variants.{None, Held}
 use Rattle.rules.specs.declared.Managed.{Managed}
 use Rattle.rules.specs.declared.Counts.{Counts}
 use Rattle.rules.specs.declared.Direction.{Direction}
+use Rattle.rules.specs.declared.DirectionSettings.{DirectionSettings}
+use Rattle.rules.specs.declared.Settings.{Settings}
 use Rattle.rules.specs.Market.{inLoop}
-
--- The numbers that the operator reviews.
-pub record Settings : Type 0 where
-  pub threshold : Cents
-  -- the edges between the four bands of net
-  pub edges : List Cents
-  -- by direction: the step in each band, and the offset
-  pub steps : List (List Hundredths)
-  pub offsets : List Hundredths
+use Rattle.rules.specs.Settings.{edgeAt, stepFor, ownAt}
 
 -- Interval n = 6h+q, q from 0 to 5.
 abbrev pub halfHour : ℕ → ℕ
@@ -111,12 +104,12 @@ amount s = s .previous +ᶜ s .current
 unfoldable pub nextOf : Bool → ℕ → Bool → Cents → Cents
 nextOf flag n present preDispatch = cond (flag && (eqb (place n) 5 && present)) (lowerOfZero preDispatch) (cents (pos 0))
 
--- Reached: amount + next is -10,000,000 or less, and no review.
-abbrev pub atThreshold : Settings → Cents → Bool
-atThreshold set total = leZ (total .0) (set .threshold .0)
+-- Reached: amount + next is the settings' threshold (N2) or less, and no review.
+abbrev pub atThreshold : Cents → Cents → Bool
+atThreshold threshold total = leZ (total .0) (threshold .0)
 
-abbrev pub reached : Settings → Event → Cents → Bool
-reached set e sum = atThreshold set (sum +ᶜ e .next) && not (e .review)
+abbrev pub reached : Cents → Event → Cents → Bool
+reached threshold e sum = atThreshold threshold (sum +ᶜ e .next) && not (e .review)
 
 -- 4. No period and reached: first = n+1, last = 6h+11, not extended, notice 1.
 abbrev pub managed : Period → ℕ → Managed
@@ -192,21 +185,16 @@ rule6 before after net counts was =
     cond (ltZ (net .0) (suspensionEnds .0)) false (
     cond (eqb (counts .unbound) 3 || eqb (counts .violated) 3) true was))
 
--- Steps for net below -5000; -5000 to below -1000; -1000 to below 1000; 1000 and up (in dollars).
-abbrev pub belowEdge : Settings → ℕ → Cents → Bool
-belowEdge set i net = ltZ (net .0) (getD (set .edges) i (cents (pos 0)) .0)
+-- Steps for net below the settings' first edge; from it to below the second; from that to below the third; the third and up (N2).
+abbrev pub belowEdge : List Cents → ℕ → Cents → Bool
+belowEdge edges i net = ltZ (net .0) (edgeAt edges i .0)
 
-abbrev pub band : Settings → Cents → ℕ
-band set net = cond (belowEdge set 0 net) 0 (cond (belowEdge set 1 net) 1 (cond (belowEdge set 2 net) 2 3))
-
-abbrev pub stepFor : Settings → ℕ → ℕ → Hundredths
-stepFor set d band = getD (getD (set .steps) d []) band (hundredths (pos 0))
-
-abbrev pub offsetFor : Settings → ℕ → Hundredths
-offsetFor set d = getD (set .offsets) d (hundredths (pos 0))
+abbrev pub band : List Cents → Cents → ℕ
+band edges net = cond (belowEdge edges 0 net) 0 (cond (belowEdge edges 1 net) 1 (cond (belowEdge edges 2 net) 2 3))
 
 -- 7. Clamp for n+1: swamped if no period, suspended or blocked. Else base is the clamp for n, or, if that was swamped, the corridor's
--- target sum (negated for To_From); clamp = base + step, at most 1,000,000, at least the offset, 2,000.
+-- target sum (negated for To_From); clamp = base + step, at most 1,000,000, at least the offset. Step and offset are the direction's own in the
+-- settings (N2).
 abbrev pub highestClamp : Hundredths
 highestClamp = hundredths (pos 1000000)
 
@@ -219,17 +207,17 @@ higher a b = cond (ltZ (a .0) (b .0)) b a
 abbrev pub clampFrom : Hundredths → Hundredths → Hundredths → Hundredths
 clampFrom base step offset = higher offset (lower (base +ʰ step) highestClamp)
 
-abbrev pub rule7 : Settings → ℕ → Bool → Hundredths → Period → Bool → Cents → Hundredths → Hundredths
-rule7 set d blocked target period suspended net clamp =
+abbrev pub rule7 : List Cents → DirectionSettings → Bool → Hundredths → Period → Bool → Cents → Hundredths → Hundredths
+rule7 edges own blocked target period suspended net clamp =
     cond (not (held period) || (suspended || blocked)) swamped (
-    clampFrom (cond (isSwamped clamp) target clamp) (stepFor set d (band set net)) (offsetFor set d))
+    clampFrom (cond (isSwamped clamp) target clamp) (stepFor (own .steps) (band edges net)) (own .offset))
 
--- One interval e of direction d with the state s: the seven rules in turn.
+-- One interval e of direction d with the state s, under the settings of the opening (N2): the seven rules in turn.
 abbrev pub sumsAfter : Event → Direction → Sums
 sumsAfter e s = rule2 (e .flag) (clearsAt (place (e .n))) (e .residue) (rule1 (e .n) (s .sums))
 
 abbrev pub managedAfter : Settings → Event → Direction → Managed
-managedAfter set e s = rule4 (e .n) (e .flag) (reached set e (amount (sumsAfter e s))) (s .period)
+managedAfter set e s = rule4 (e .n) (e .flag) (reached (set .threshold) e (amount (sumsAfter e s))) (s .period)
 
 abbrev pub countsAfter : Settings → Event → Direction → Counts
 countsAfter set e s = rule5 (held (s .period)) (e .status) (s .clamp) (sumsAfter e s .current) (managedAfter set e s .period) (s .counts)
@@ -238,7 +226,7 @@ abbrev pub suspendedAfter : Settings → Event → Direction → Bool
 suspendedAfter set e s = rule6 (held (s .period)) (managedAfter set e s .period) (sumsAfter e s .net) (countsAfter set e s) (s .suspended)
 
 abbrev pub clampAfter : Settings → ℕ → Event → Direction → Hundredths
-clampAfter set d e s = rule7 set d (e .blocked) (e .target) (managedAfter set e s .period) (suspendedAfter set e s) (sumsAfter e s .net) (s .clamp)
+clampAfter set d e s = rule7 (set .edges) (ownAt (set .directions) d) (e .blocked) (e .target) (managedAfter set e s .period) (suspendedAfter set e s) (sumsAfter e s .net) (s .clamp)
 
 unfoldable pub stepOf : Settings → ℕ → Event → Direction → Direction
 stepOf set d e s = record {
@@ -253,31 +241,4 @@ stepOf set d e s = record {
   blocked = e .blocked;
   flag = e .flag;
   notice = managedAfter set e s .notice;
-}
-
--- Document 01's numbers: the threshold, the bands of net, the steps in MW (000, table 2) and the offset.
-abbrev pub megawatts : ℤ → Hundredths
-megawatts z = hundredths (pos 100 *ℤ z)
-
-abbrev pub dollars : ℤ → Cents
-dollars z = cents (pos 100 *ℤ z)
-
-abbrev pub four : ℤ → ℤ → ℤ → ℤ → List Hundredths
-four a b c d = megawatts a ∷ megawatts b ∷ megawatts c ∷ megawatts d ∷ []
-
-abbrev pub settings : Settings
-settings = record {
-  threshold = cents (minus 10000000);
-  edges = dollars (minus 5000) ∷ dollars (minus 1000) ∷ dollars (pos 1000) ∷ [];
-  steps =
-      four (minus 100) (minus 50) (pos 0) (pos 30)
-      ∷ four (minus 100) (minus 50) (pos 0) (pos 30)
-      ∷ four (minus 100) (minus 50) (pos 0) (pos 30)
-      ∷ four (minus 100) (minus 50) (pos 0) (pos 30)
-      ∷ four (minus 50) (minus 30) (pos 0) (pos 30)
-      ∷ four (minus 30) (minus 25) (pos 0) (pos 25)
-      ∷ four (minus 75) (minus 40) (pos 0) (pos 30)
-      ∷ four (minus 75) (minus 40) (pos 0) (pos 30)
-      ∷ [];
-  offsets = replicate 8 (hundredths (pos 2000));
 }

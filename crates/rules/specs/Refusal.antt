@@ -5,13 +5,19 @@ use mathlib.Core.Option.{Option, none, some}
 use Prim.Native.Nat.{ℕ, zero, suc, _+_, _*_, _/_}
 use lib.Dec.{eqb, leb, ltb}
 use lib.ListN.{length, getD}
+use lib.Signed.{ltZ}
+use Rattle.units.specs.declared.Cents.{Cents}
+use Rattle.units.specs.declared.Hundredths.{Hundredths}
 use Rattle.rules.specs.declared.Outcome.{Outcome}
 use Rattle.rules.specs.declared.Outcome.the-variants.{Accepted, Refused}
+use Rattle.rules.specs.declared.DirectionSettings.{DirectionSettings}
+use Rattle.rules.specs.declared.Settings.{Settings}
 use Rattle.rules.specs.Market.{priceOk, flowOk, lossOk}
+use Rattle.rules.specs.Settings.{thresholdOk, edgeAt, edgeOk, stepFor, stepOk, offsetOk, ownAt}
 use Rattle.rules.specs.Interval.{place}
 use Rattle.rules.specs.Record.{u32At, recordNumber, flags, present, statusByte, zeroBytes, price, metered, target, losses, preDispatchPrice, preDispatchFlow, preDispatchLosses}
 
--- The number that document 01 gives an outcome: an acceptance has none.
+-- The number of an outcome: an acceptance has none.
 abbrev pub numberOf : Outcome → Option ℕ
 numberOf Accepted = none
 numberOf (Refused k) = some k
@@ -99,18 +105,43 @@ intervalConditions awaited b =
 unfoldable pub intervalOutcome : ℕ → List ℕ → Outcome
 intervalOutcome awaited b = judged (intervalConditions awaited b)
 
--- Opening: 9 first n above 1,051,199 or not a multiple of 6; 10 a share above 1000.
+-- Opening: 9 first n above 1,051,199 or not a multiple of 6; 10 a share above 1000;
 abbrev pub shareOk : List ℕ → ℕ → Bool
 shareOk shares i = leb (getD shares i 0) 1000
 
-unfoldable pub openConditions : ℕ → List ℕ → List Condition
-openConditions first shares =
+-- 19 a value outside its span (N2): the threshold, an edge, a direction's step or its offset;
+abbrev pub edgesOk : List Cents → Bool
+edgesOk edges = each 3 (λ i. edgeOk (edgeAt edges i))
+
+abbrev pub stepsOk : List Hundredths → Bool
+stepsOk steps = each 4 (λ band. stepOk (stepFor steps band))
+
+abbrev pub directionOk : DirectionSettings → Bool
+directionOk own = stepsOk (own .steps) && offsetOk (own .offset)
+
+abbrev pub directionsOk : List DirectionSettings → Bool
+directionsOk directions = each 8 (λ d. directionOk (ownAt directions d))
+
+unfoldable pub insideSpans : Settings → Bool
+insideSpans set = thresholdOk (set .threshold) && (edgesOk (set .edges) && directionsOk (set .directions))
+
+-- 20 edges not rising strictly (N2).
+abbrev pub risesAt : List Cents → ℕ → Bool
+risesAt edges i = ltZ (edgeAt edges i .0) (edgeAt edges (suc i) .0)
+
+unfoldable pub rising : List Cents → Bool
+rising edges = each 2 (risesAt edges)
+
+unfoldable pub openConditions : ℕ → List ℕ → Settings → List Condition
+openConditions first shares set =
     9 when (ltb highestNumber first || not (eqb (place first) 0))
     ∷ 10 when not (each 6 (shareOk shares))
+    ∷ 19 when not (insideSpans set)
+    ∷ 20 when not (rising (set .edges))
     ∷ []
 
-unfoldable pub openOutcome : ℕ → List ℕ → Outcome
-openOutcome first shares = judged (openConditions first shares)
+unfoldable pub openOutcome : ℕ → List ℕ → Settings → Outcome
+openOutcome first shares set = judged (openConditions first shares set)
 
 -- Row: 17 direction above 7.
 unfoldable pub rowConditions : ℕ → List Condition

@@ -1,4 +1,4 @@
--- Document 01, "Record, opening, row, journal": what the three calls of the tracker return for every input.
+-- Document 01, "Record, opening, row, journal": what the calls of the tracker return for every input.
 use mathlib.Core.Bool.{Bool, false, not, cond}
 use mathlib.Core.List.{List, foldl}
 use Prim.Native.Nat.{ℕ, suc}
@@ -14,46 +14,58 @@ use Rattle.rules.specs.declared.Row.{Row}
 use Rattle.rules.specs.declared.Residue.{Residue}
 use Rattle.rules.specs.declared.Answer.{Answer}
 use Rattle.rules.specs.declared.RowAnswer.{RowAnswer}
+use Rattle.rules.specs.declared.Settings.{Settings}
 use Rattle.rules.specs.Market.{ofDirections}
-use Rattle.rules.specs.Interval.{noCounts, zeros, fresh, settings, stepOf, amount, isSwamped}
+use Rattle.rules.specs.Settings.{document01}
+use Rattle.rules.specs.Interval.{noCounts, zeros, fresh, stepOf, amount, isSwamped}
 use Rattle.rules.specs.Record.{recordNumber, eventOf}
 use Rattle.rules.specs.Refusal.{isAccepted, openOutcome, intervalOutcome, rowOutcome}
 
 -- The tracker, field by field.
-abbrev pub tracker : List ℕ → ℕ → ℕ → List Direction → Tracker
-tracker shares shown awaited directions = record { shares = shares; shown = shown; awaited = awaited; directions = directions }
+abbrev pub tracker : Settings → List ℕ → ℕ → ℕ → List Direction → Tracker
+tracker set shares shown awaited directions = record { settings = set; shares = shares; shown = shown; awaited = awaited; directions = directions }
 
--- An opening gives the first n and six shares.
+-- An opening gives the first n, six shares and settings (N2). Document 01's numbers are the settings when none are given.
 pub record Opening : Type 0 where
   pub first : ℕ
   pub shares : List ℕ
+  pub settings : Settings
+
+abbrev pub openingWith : ℕ → List ℕ → Settings → Opening
+openingWith first shares set = record { first = first; shares = shares; settings = set }
+
+abbrev pub opening : ℕ → List ℕ → Opening
+opening first shares = openingWith first shares document01
 
 abbrev pub opens : Opening → Bool
-opens o = isAccepted (openOutcome (o .first) (o .shares))
+opens o = isAccepted (openOutcome (o .first) (o .shares) (o .settings))
 
--- The tracker beside a refusal's number is a fresh one at first n 0 with all shares 0.
+-- The tracker beside a refusal's number is a fresh one at first n 0 with all shares 0, and with document 01's numbers (N2).
 abbrev pub firstOf : Opening → ℕ
 firstOf o = cond (opens o) (o .first) 0
 
 abbrev pub sharesOf : Opening → List ℕ
 sharesOf o = cond (opens o) (o .shares) (replicate 6 0)
 
+abbrev pub settingsOf : Opening → Settings
+settingsOf o = cond (opens o) (o .settings) document01
+
 abbrev pub opened : Opening → Tracker
-opened o = tracker (sharesOf o) (firstOf o) (firstOf o) (replicate 8 fresh)
+opened o = tracker (settingsOf o) (sharesOf o) (firstOf o) (firstOf o) (replicate 8 fresh)
 
 unfoldable pub openOf : Opening → Answer
-openOf o = record { outcome = openOutcome (o .first) (o .shares); tracker = opened o }
+openOf o = record { outcome = openOutcome (o .first) (o .shares) (o .settings); tracker = opened o }
 
 -- A direction that is not there: what a list of states gives past its end. A tracker has eight, so that nobody meets it.
 abbrev pub blank : Direction
 blank = zeros (hundredths (pos 0)) false
 
 -- The states of the eight directions after one interval more, all by one step.
-unfoldable pub stepAll : List ℕ → List ℕ → List Direction → List Direction
-stepAll shares b ss = ofDirections (λ d. stepOf settings d (eventOf shares d b) (getD ss d blank))
+unfoldable pub stepAll : Settings → List ℕ → List ℕ → List Direction → List Direction
+stepAll set shares b ss = ofDirections (λ d. stepOf set d (eventOf shares d b) (getD ss d blank))
 
 unfoldable pub advanced : Tracker → List ℕ → Tracker
-advanced t b = tracker (t .shares) (recordNumber b) (suc (recordNumber b)) (stepAll (t .shares) b (t .directions))
+advanced t b = tracker (t .settings) (t .shares) (recordNumber b) (suc (recordNumber b)) (stepAll (t .settings) (t .shares) b (t .directions))
 
 -- An interval call. A refusal returns only its number, beside the tracker as it was.
 abbrev pub accepts : ℕ → List ℕ → Bool

@@ -94,8 +94,22 @@ pub struct Direction {
     pub notice: u8,
 }
 
-// The tracker: the shares of its opening, the number that its rows show, the awaited number, and the eight directions.
+// One direction's settings: a step for each of the four bands of net, and the offset (N2).
+pub struct DirectionSettings {
+    pub steps: [Hundredths; 4],
+    pub offset: Hundredths,
+}
+
+// The numbers that the operator reviews (N2): the threshold, the edges between the four bands of net, and each direction's own.
+pub struct Settings {
+    pub threshold: Cents,
+    pub edges: [Cents; 3],
+    pub directions: [DirectionSettings; 8],
+}
+
+// The tracker: the settings and the shares of its opening, the number that its rows show, the awaited number, and the eight directions.
 pub struct Tracker {
+    pub settings: Settings,
     pub shares: [u16; 6],
     pub shown: u32,
     pub awaited: u32,
@@ -121,7 +135,7 @@ pub struct Row {
     pub leftover: Grains,
 }
 
-// How a call ends: accepted, or refused under document 01's number.
+// How a call ends: accepted, or refused under a number.
 pub enum Outcome {
     Accepted,
     Refused(u8),

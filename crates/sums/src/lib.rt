@@ -5,12 +5,9 @@ use units::Cents;
 ghost use mathlib.Core.Path.{_≡_};
 ghost use Prim.Native.Nat.{_+_, _≤_};
 ghost use lib.IntN.{natAbs};
-ghost use Rattle.rules.specs.Interval.{settings, place, clearsAt, rule1, grown, clearedIfZero, rule2, amount, reached};
+ghost use Rattle.rules.specs.Interval.{place, clearsAt, rule1, grown, clearedIfZero, rule2, amount, reached};
 ghost use Rattle.rules.specs.Bounds.{highestResidue, highestNext, highestSum};
 ghost use Rattle.sums.specs.Internal.{Countable, Growable, Addable};
-
-// At this total of amount and estimate, or below it, NRM starts: -$100,000.
-const THRESHOLD: Cents = Cents(-10_000_000);
 
 // 1. If q = 0, previous grows by current; current and net become 0.
 pub fn rule1(n: u32, s: Sums) -> Sums
@@ -99,14 +96,14 @@ pub fn amount(s: Sums) -> Cents
     previous.plus(current)
 }
 
-// 3. Reached: amount + next is -10,000,000 or less, and no review.
-pub fn rule3(e: Event, amount: Cents) -> bool
+// 3. Reached: amount + next is the threshold or less (N2), and no review.
+pub fn rule3(threshold: Cents, e: Event, amount: Cents) -> bool
     requires { ⌜ (natAbs (amount .0) ≤ highestSum + highestResidue) × (natAbs (e .next .0) ≤ highestNext) ⌝ }
-    ensures { λ r. ⌜ r ≡ reached settings e amount ⌝ }
+    ensures { λ r. ⌜ r ≡ reached threshold e amount ⌝ }
 {
     let next = e.next;
     let total = amount.plus(next);
-    if total.at_most(THRESHOLD) {
+    if total.at_most(threshold) {
         return !e.review;
     }
     false

@@ -9,19 +9,20 @@ use native.Mathlib.Omega.{arith}
 use lib.ListN.{length, getD, List·getD-eq-default}
 use Rattle.rules.specs.declared.Event.{Event}
 use Rattle.rules.specs.declared.Tracker.{Tracker}
-use Rattle.rules.specs.Interval.{settings, stepOf}
+use Rattle.rules.specs.Interval.{stepOf}
 use Rattle.rules.specs.Record.{recordNumber, targetSum, eventOf}
 use Rattle.rules.specs.Tracker.{sharesOf, accepts, blank, directionOf, stepAll}
 use Rattle.rules.specs.Claim.{Came}
 use Rattle.rules.proofs.Accepted.{Sound, accepted-is}
-use Rattle.rules.proofs.Came.{replayed}
+use Rattle.rules.proofs.AcceptedSettings.{direction-ok}
+use Rattle.rules.proofs.Came.{replayed, settings-settled}
 use Rattle.rules.proofs.Directions.{at-direction, same-directions}
 use Rattle.rules.proofs.StateBounds.{event-size, bounds}
 use Rattle.rules.proofs.Replay.{event-number}
 use Rattle.rules.proofs.RecordRanges.{target-sum-bound, share-bound}
 use Rattle.rules.specs.Market.{ofDirections}
 use Rattle.events.specs.Internal.{Readable}
-use Rattle.step.specs.Internal.{Steppable}
+use Rattle.step.specs.Internal.{limitsOf, Steppable}
 use Rattle.tracker.specs.Internal.{noEvent, AllSteppable, stepped, allStepped}
 
 event-target : (shares : List ℕ) (d : ℕ) (b : List ℕ) → eventOf shares d b .target ≡ targetSum b d
@@ -46,11 +47,11 @@ module _ (t : Tracker) (came : Came t) (b : List ℕ) (ok : accepts (t .awaited)
       go i (yes l) = rw shares-are (share-bound (came .opening) i l)
       go i (no l) = rw (List·getD-eq-default (t .shares) 0 {n = i} (omega arith)) (omega arith)
 
-  steppable : (d : ℕ) → d < 8 → Steppable d (eventOf (t .shares) d b) (directionOf t d)
+  steppable : (d : ℕ) → d < 8 → Steppable (limitsOf (t .settings) d) (eventOf (t .shares) d b) (directionOf t d)
   steppable d l =
       let sizes = event-size (came .opening) d b own in
       record {
-        direction = l;
+        own = direction-ok (t .settings) (settings-settled t came) d l;
         number = rw (event-number (t .shares) d b) (omega (arith, own .in-range));
         residue = rw shares-are (sizes .0);
         next = rw shares-are (sizes .1);
@@ -62,9 +63,9 @@ module _ (t : Tracker) (came : Came t) (b : List ℕ) (ok : accepts (t .awaited)
     says : (d : ℕ) → d < 8 → getD events d noEvent ≡ eventOf (t .shares) d b
     says d l = rw is (at-direction (λ d. eventOf (t .shares) d b) noEvent d l)
 
-    pub all-steppable : AllSteppable events (t .directions)
+    pub all-steppable : AllSteppable (t .settings) events (t .directions)
     all-steppable = record { each = λ d l. rw (says d l) (steppable d l) }
 
-    pub stepped-is : allStepped events (t .directions) ≡ stepAll (t .shares) b (t .directions)
+    pub stepped-is : allStepped (t .settings) events (t .directions) ≡ stepAll (t .settings) (t .shares) b (t .directions)
     unfolding stepAll
-    stepped-is = same-directions (stepped events (t .directions)) (λ d. stepOf settings d (eventOf (t .shares) d b) (directionOf t d)) blank (λ d l. rw (says d l))
+    stepped-is = same-directions (stepped (t .settings) events (t .directions)) (λ d. stepOf (t .settings) d (eventOf (t .shares) d b) (directionOf t d)) blank (λ d l. rw (says d l))

@@ -10,7 +10,6 @@ use borrow.Author.Tests.{le-ltb, ltb-false}
 use lib.Dec.{T, ltb}
 use lib.IntN.{_+ℤ_}
 use lib.Signed.{leZ}
-use Rattle.signed.specs.Range.{minus}
 use Rattle.rules.specs.declared.Event.{Event}
 use Rattle.rules.specs.declared.Tracker.{Tracker}
 use Rattle.rules.specs.declared.Row.{Row}
@@ -21,16 +20,18 @@ use Rattle.rules.specs.Bounds.{RowBounds}
 use Rattle.rules.specs.Refusal.{numberOf, isAccepted, judged, openConditions, openOutcome, intervalConditions, intervalOutcome, rowConditions, rowOutcome}
 use Rattle.rules.specs.Residue.{together}
 use Rattle.rules.specs.Record.{grainsIn}
-use Rattle.rules.specs.Tracker.{Opening, firstOf, sharesOf, openOf, intervalOf, residueShown, rowOf, noRow, rowAnswer, after, run}
+use Rattle.rules.specs.Tracker.{Opening, firstOf, sharesOf, settingsOf, openOf, intervalOf, residueShown, rowOf, noRow, rowAnswer, after, run}
 use Rattle.rules.specs.History.{sumSince, estimate, underReview, liesIn}
 use Rattle.rules.specs.Claim.{accepted, history, awaitedFrom, workedFrom}
 use Rattle.rules.proofs.Came as rules
+use Rattle.rules.proofs.Replay.{replays}
 use Rattle.rules.proofs.StateBounds.{row-bounds}
 use Rattle.rules.proofs.CentsAndGrains.{none-left}
 use Rattle.rules.proofs.Leftover.{rows-together}
 pub use Rattle.signed.proofs.Calc.{inside}
 pub use Rattle.rules.proofs.EachBelow.{both-false}
 pub use Rattle.rules.proofs.Directions.{at-direction}
+pub use Rattle.rules.proofs.AcceptedSettings.{none-given}
 pub use Rattle.rules.proofs.Accepted.{accepted-iff, number-met}
 pub use Rattle.rules.proofs.FirstMet.{Passed, never, untested, pass, refused-at, accepted-past}
 pub use Rattle.rules.proofs.ByClaim.{NoCause, not-without-cause, clamped-at, amount-is}
@@ -44,13 +45,22 @@ came-open = rules.came-open
 pub came-interval : (t : Tracker) → Came t → (b : List ℕ) → Came (intervalOf t b .tracker)
 came-interval = rules.came-after
 
+-- An accepted opening has the first n, the shares and the settings (N2) that were given.
+pub accepted-as-given : (o : Opening) → judged (openConditions (o .first) (o .shares) (o .settings)) ≡ Accepted → (firstOf o ≡ o .first) × (sharesOf o ≡ o .shares) × (settingsOf o ≡ o .settings)
+unfolding openOutcome
+accepted-as-given o ok = (rw ok, rw ok, rw ok)
+
+-- A tracker keeps its settings (N2).
+pub keeps-settings : (t : Tracker) (o : Opening) (calls : List (List ℕ)) → t ≡ run o calls → t .settings ≡ settingsOf o
+keeps-settings t o calls q = rw q (replays o calls .settings)
+
 -- what the equations of the calls bring with them
 pub open-promise : (o : Opening) {r : Answer} → r ≡ openOf o → OpenPromise o r
 unfolding run openOf openOutcome
 open-promise o e =
     rw e (record {
       is = refl;
-      number = number-met (openConditions (o .first) (o .shares));
+      number = number-met (openConditions (o .first) (o .shares) (o .settings));
       came = came-open o;
       ran = refl;
       claim = rules.claim (openOf o .tracker) o [] refl;
@@ -118,7 +128,7 @@ pub row-direction : {t : Tracker} {d : ℕ} {r : RowAnswer} → Came t → RowPr
 row-direction {d = d} came row l =
     let o = came .opening in
     let calls = came .calls in
-    ap (λ (x : Row). x .direction) (row .claim o calls (came .is) (omega arith) .is-worked) ∙ worked-direction (firstOf o) d (history o d (accepted o calls))
+    ap (λ (x : Row). x .direction) (row .claim o calls (came .is) (omega arith) .is-worked) ∙ worked-direction (settingsOf o) (firstOf o) d (history o d (accepted o calls))
 
 -- After an accepted call a row has the n that was awaited. (The next awaited number is one more: awaits-one-more.)
 pub row-number : {t : Tracker} {b : List ℕ} {a : Answer} {d : ℕ} {r : RowAnswer} (o : Opening) (calls : List (List ℕ))
@@ -144,11 +154,11 @@ module _ {t : Tracker} {d : ℕ} {r : RowAnswer} (promise : RowPromise t d r) (o
   es = history o d (accepted o calls)
 
   -- With no cause in the last twelve accepted intervals the next interval does not lie in the row's period.
-  pub row-without-cause : NoCause es → T (not (liesIn (awaitedFrom o calls) (r .row .period)))
+  pub row-without-cause : NoCause (settingsOf o) es → T (not (liesIn (awaitedFrom o calls) (r .row .period)))
   row-without-cause = not-without-cause (promise .claim o calls q (omega arith))
 
-  -- At -10,000,000 cents or less, and not under review, it lies in it.
-  pub row-clamped : T (leZ (sumSince es .0 +ℤ estimate es .0) (minus 10000000)) → T (not (underReview es)) → T (liesIn (awaitedFrom o calls) (r .row .period))
+  -- At the threshold of the opening's settings or less, and not under review, it lies in it.
+  pub row-clamped : T (leZ (sumSince es .0 +ℤ estimate es .0) (settingsOf o .threshold .0)) → T (not (underReview es)) → T (liesIn (awaitedFrom o calls) (r .row .period))
   row-clamped = clamped-at (promise .claim o calls q (omega arith))
 
   -- The row's amount is the sum since the latest clearing interval.

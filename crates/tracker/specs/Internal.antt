@@ -7,12 +7,14 @@ use lib.ListN.{getD, replicate}
 use Rattle.units.specs.Units.{cents, hundredths, grains}
 use Rattle.rules.specs.declared.Direction.{Direction}
 use Rattle.rules.specs.declared.Event.{Event}
+use Rattle.rules.specs.declared.Settings.{Settings}
 use Rattle.rules.specs.declared.Answer.{Answer}
 use Rattle.rules.specs.declared.Outcome.the-variants.{Refused}
-use Rattle.rules.specs.Interval.{settings, fresh, stepOf}
+use Rattle.rules.specs.Settings.{document01}
+use Rattle.rules.specs.Interval.{fresh, stepOf}
 use Rattle.rules.specs.Market.{ofDirections}
 use Rattle.rules.specs.Tracker.{tracker, blank}
-use Rattle.step.specs.Internal.{Steppable}
+use Rattle.step.specs.Internal.{limitsOf, Steppable}
 
 -- stands where a list of events ends
 abbrev pub noEvent : Event
@@ -29,15 +31,15 @@ noEvent = record {
 }
 
 abbrev pub refusedOpening : ℕ → Answer
-refusedOpening k = record { outcome = Refused k; tracker = tracker (replicate 6 0) 0 0 (replicate 8 fresh) }
+refusedOpening k = record { outcome = Refused k; tracker = tracker document01 (replicate 6 0) 0 0 (replicate 8 fresh) }
 
--- each direction's state, and its event, allow a step
-pub record AllSteppable (events : List Event) (ss : List Direction) : Type 0 where
-  pub each : (d : ℕ) → d < 8 → Steppable d (getD events d noEvent) (getD ss d blank)
+-- each direction's settings, state and event allow a step
+pub record AllSteppable (set : Settings) (events : List Event) (ss : List Direction) : Type 0 where
+  pub each : (d : ℕ) → d < 8 → Steppable (limitsOf set d) (getD events d noEvent) (getD ss d blank)
 
 -- a direction's state after its event, and those of all eight
-abbrev pub stepped : List Event → List Direction → ℕ → Direction
-stepped events ss d = stepOf settings d (getD events d noEvent) (getD ss d blank)
+abbrev pub stepped : Settings → List Event → List Direction → ℕ → Direction
+stepped set events ss d = stepOf set d (getD events d noEvent) (getD ss d blank)
 
-abbrev pub allStepped : List Event → List Direction → List Direction
-allStepped events ss = ofDirections (stepped events ss)
+abbrev pub allStepped : Settings → List Event → List Direction → List Direction
+allStepped set events ss = ofDirections (stepped set events ss)

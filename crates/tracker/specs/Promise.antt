@@ -1,7 +1,7 @@
 -- What crates above the tracker may cite, and nothing else of it or of the crates that it is made of (with the laws of proofs/Promise): the words
--- of the three calls, of demand 3 and of N8's law on a corridor's rows, and what the calls promise by them. (Crate `words`, which reads and writes bytes for all, is no part of
--- it.) What lies under these words is not opened from above: the tests of numbers 4 to 8, what a record says of a direction (eventOf), and
--- what the rules make of its history (stateAfter).
+-- of the calls, of demand 3 and of N8's law on a corridor's rows, and what the calls promise by them. (Crate `words`, which reads and writes bytes for all, is no part of
+-- it.) What lies under these words is not opened from above: the tests of numbers 4 to 8, 10, 19 and 20, what a record says of a direction
+-- (eventOf), and what the rules make of its history (stateAfter).
 use mathlib.Core.List.{List, [], _∷_, _++_}
 use mathlib.Core.Path.{_≡_}
 use Prim.Native.Nat.{ℕ, _<_}
@@ -12,6 +12,9 @@ pub use Rattle.units.specs.declared.Hundredths.{Hundredths}
 pub use Rattle.units.specs.declared.Grains.{Grains}
 pub use Rattle.units.specs.Units.{cents, hundredths, grains, _+ᶜ_, _+ᵍ_, inGrains}
 -- what the calls take and answer
+pub use Rattle.rules.specs.declared.DirectionSettings.{DirectionSettings}
+pub use Rattle.rules.specs.declared.Settings.{Settings}
+pub use Rattle.rules.specs.Settings.{document01}
 pub use Rattle.rules.specs.declared.Tracker.{Tracker}
 pub use Rattle.rules.specs.declared.Row.{Row}
 pub use Rattle.rules.specs.declared.Period.{Period}
@@ -27,7 +30,7 @@ pub use Rattle.rules.specs.Record.{recordNumber}
 pub use Rattle.rules.specs.Refusal.{numberOf, isAccepted, Condition, _when_, judged, numberMet}
 unfoldable pub use Rattle.rules.specs.Refusal.{openConditions, intervalConditions, rowConditions}
 -- the calls, a list of them from an opening, and that a tracker came from such a list
-pub use Rattle.rules.specs.Tracker.{Opening, firstOf, sharesOf, accepts, openOf, intervalOf, rowOf, noRow, rowAnswer, after}
+pub use Rattle.rules.specs.Tracker.{Opening, openingWith, opening, firstOf, sharesOf, settingsOf, accepts, openOf, intervalOf, rowOf, noRow, rowAnswer, after}
 unfoldable pub use Rattle.rules.specs.Tracker.{run}
 pub use Rattle.rules.specs.Claim.{Came}
 -- what follows from an opening and records alone: the accepted ones, the awaited number, the history of a direction, its row
@@ -39,7 +42,7 @@ pub use Rattle.rules.specs.Tracker.{row}
 unfoldable pub use Rattle.rules.specs.Claim.{acceptCall, accepted, history, workedRow}
 pub use Rattle.rules.specs.Claim.{awaitedAfter, awaitedFrom, workedFrom}
 -- the words of demand 3 about a history, and the claim with its parts
-pub use Rattle.rules.specs.Interval.{Settings, settings, place, halfHour}
+pub use Rattle.rules.specs.Interval.{place, halfHour}
 unfoldable pub use Rattle.rules.specs.History.{inHalfHour, latestHalfHour, anyNegative, clearing, sinceClearing, sumNegative}
 pub use Rattle.rules.specs.History.{sumSince, estimate, underReview, gotThere, GotThereWithin, liesIn}
 pub use Rattle.rules.specs.Claim.{DirectionClaim, ClaimOf, Claim}
@@ -53,14 +56,11 @@ pub use Rattle.rules.specs.Market.{ofDirections}
 -- how large the numbers of a row get
 pub use Rattle.rules.specs.Bounds.{highestResidue, highestNext, highestSum, halfCent, WithinHalfCent, RowBounds}
 
-abbrev pub opening : ℕ → List ℕ → Opening
-opening first shares = record { first = first; shares = shares }
-
--- An opening returns what document 01 says: its number is that of the first condition met, or none. Its tracker is the run of the empty
--- list, and the claim of that list holds of it.
+-- An opening, with any settings (N2), returns what document 01 says: its number is that of the first condition met, or none. Its tracker is the
+-- run of the empty list, and the claim of that list holds of it.
 pub record OpenPromise (o : Opening) (r : Answer) : Type 0 where
   pub is : r ≡ openOf o
-  pub number : numberOf (r .outcome) ≡ numberMet (openConditions (o .first) (o .shares))
+  pub number : numberOf (r .outcome) ≡ numberMet (openConditions (o .first) (o .shares) (o .settings))
   pub came : Came (r .tracker)
   pub ran : r .tracker ≡ run o []
   pub claim : Claim o [] (r .tracker)
@@ -87,4 +87,4 @@ pub record RowPromise (t : Tracker) (d : ℕ) (r : RowAnswer) : Type 0 where
   pub claim : (o : Opening) (calls : List (List ℕ))
       → t ≡ run o calls
       → d < 8
-      → DirectionClaim (firstOf o) d (history o d (accepted o calls)) (awaitedFrom o calls) (r .row)
+      → DirectionClaim (settingsOf o) (firstOf o) d (history o d (accepted o calls)) (awaitedFrom o calls) (r .row)

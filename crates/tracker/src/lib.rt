@@ -1,4 +1,4 @@
-// The clamp tracker: an opening, an interval call and a row. What each returns, for every input, is in specs/Promise.
+// The clamp tracker: two openings, an interval call and a row. What each returns, for every input, is in specs/Promise.
 use rules::Answer;
 use rules::Counts;
 use rules::Direction;
@@ -9,8 +9,10 @@ use rules::Period;
 use rules::Row;
 use rules::RowAnswer;
 use rules::SWAMPED;
+use rules::Settings;
 use rules::Sums;
 use rules::Tracker;
+use step::Limits;
 use units::Cents;
 use units::Grains;
 use units::Hundredths;
@@ -21,7 +23,7 @@ ghost use lib.ListN.{replicate};
 ghost use Rattle.rules.specs.Interval.{fresh};
 ghost use Rattle.rules.specs.Refusal.{each, shareOk};
 ghost use Rattle.rules.specs.Tracker.{tracker, accepts, advanced, rowOf, noRow};
-ghost use Rattle.tracker.specs.Promise.{Came, OpenPromise, IntervalPromise, RowPromise, opening};
+ghost use Rattle.tracker.specs.Promise.{Came, OpenPromise, IntervalPromise, RowPromise, openingWith, opening};
 ghost use Rattle.tracker.specs.Internal.{AllSteppable, allStepped, refusedOpening};
 
 // Is no share above 1000?
@@ -65,11 +67,12 @@ fn fresh_direction() -> Direction
     }
 }
 
-fn fresh_tracker(first: u32, shares: [u16; 6]) -> Tracker
-    ensures { λ r. ⌜ r ≡ tracker shares first first (replicate 8 fresh) ⌝ }
+fn fresh_tracker(settings: Settings, first: u32, shares: [u16; 6]) -> Tracker
+    ensures { λ r. ⌜ r ≡ tracker settings shares first first (replicate 8 fresh) ⌝ }
 {
     let directions = [fresh_direction(); 8];
     Tracker {
+        settings: settings,
         shares: shares,
         shown: first,
         awaited: first,
@@ -77,20 +80,20 @@ fn fresh_tracker(first: u32, shares: [u16; 6]) -> Tracker
     }
 }
 
-// Beside a refused opening's number stands a fresh tracker at first n 0 with all shares 0.
+// Beside a refused opening's number stands a fresh tracker with document 01's settings, at first n 0, with all shares 0.
 fn refused_opening(number: u8) -> Answer
     ensures { λ r. ⌜ r ≡ refusedOpening number ⌝ }
 {
-    let t = fresh_tracker(0, [0; 6]);
+    let t = fresh_tracker(settings::document01(), 0, [0; 6]);
     Answer {
         outcome: Outcome::Refused(number),
         tracker: t,
     }
 }
 
-// Opens a tracker at the first n, with the From loss shares of the six physical interconnectors in thousandths.
-pub fn open(first: u32, shares: [u16; 6]) -> Answer
-    ensures { λ r. ⌜ OpenPromise (opening first shares) r ⌝ }
+// Opens a tracker at the first n, with the From loss shares of the six physical interconnectors in thousandths, and with settings (N2).
+pub fn open_with_settings(first: u32, shares: [u16; 6], settings: Settings) -> Answer
+    ensures { λ r. ⌜ OpenPromise (openingWith first shares settings) r ⌝ }
 {
     if HIGHEST_NUMBER < first {
         return refused_opening(9);
@@ -98,26 +101,50 @@ pub fn open(first: u32, shares: [u16; 6]) -> Answer
     if first % 6 != 0 {
         return refused_opening(9);
     }
-    if shares_ok(shares) {
-        let t = fresh_tracker(first, shares);
-        return Answer {
-            outcome: Outcome::Accepted,
-            tracker: t,
-        };
+    if !shares_ok(shares) {
+        return refused_opening(10);
     }
-    refused_opening(10)
+    if !settings::inside_spans(settings) {
+        return refused_opening(19);
+    }
+    let edges = settings.edges;
+    if !settings::rising(edges) {
+        return refused_opening(20);
+    }
+    let t = fresh_tracker(settings, first, shares);
+    Answer {
+        outcome: Outcome::Accepted,
+        tracker: t,
+    }
+}
+
+// The same with document 01's settings.
+pub fn open(first: u32, shares: [u16; 6]) -> Answer
+    ensures { λ r. ⌜ OpenPromise (opening first shares) r ⌝ }
+{
+    open_with_settings(first, shares, settings::document01())
 }
 
 // One step for each direction.
-fn step_all(events: [Event; 8], directions: [Direction; 8]) -> [Direction; 8]
-    requires { ⌜ AllSteppable events directions ⌝ }
-    ensures { λ r. ⌜ r ≡ allStepped events directions ⌝ }
+fn step_all(settings: Settings, events: [Event; 8], directions: [Direction; 8]) -> [Direction; 8]
+    requires { ⌜ AllSteppable settings events directions ⌝ }
+    ensures { λ r. ⌜ r ≡ allStepped settings events directions ⌝ }
 {
+    // Taken out of the settings before the loop: else each turn would copy them whole.
+    let threshold = settings.threshold;
+    let edges = settings.edges;
+    let all = settings.directions;
     let mut out = directions;
     for d in 0..8 {
+        let own = all[d];
+        let limits = Limits {
+            threshold: threshold,
+            edges: edges,
+            own: own,
+        };
         let e = events[d];
         let s = out[d];
-        let after = step::step(d, e, s);
+        let after = step::step(limits, e, s);
         out[d] = after;
     }
     out
@@ -128,12 +155,14 @@ fn advanced(t: Tracker, bytes: &[u8]) -> Tracker
     requires { ⌜ Came t × (accepts (t .awaited) (now bytes) ≡ true) ⌝ }
     ensures { λ r. ⌜ r ≡ advanced t (now (bytes .entry)) ⌝ }
 {
+    let settings = t.settings;
     let shares = t.shares;
     let events = events::events(shares, bytes);
     let kept = t.directions;
-    let directions = step_all(events, kept);
+    let directions = step_all(settings, events, kept);
     let n = record::number(bytes);
     Tracker {
+        settings: settings,
         shares: shares,
         shown: n,
         awaited: n + 1,

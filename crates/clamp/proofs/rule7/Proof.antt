@@ -1,4 +1,4 @@
--- `clamp::rule7` meets its contract: swamped, or moved by the step of the direction and the band of net.
+-- `clamp::rule7` meets its contract: swamped, or moved by the step for the band of net.
 -- Assumes nothing.
 use mathlib.Core.Bool.{Bool, true, false, cond}
 use mathlib.Core.Path.{sym, _∙_}
@@ -6,7 +6,8 @@ use Prim.Native.Nat.{ℕ, _≤_}
 use lib.IntN.{natAbs}
 use Rattle.units.specs.declared.Hundredths.{Hundredths}
 use Rattle.rules.specs.Interval.{isSwamped}
-use Rattle.clamp.proofs.StepTable.{step-size, offset-is, band-size}
+use Rattle.rules.proofs.AcceptedSettings.{step-size}
+use Rattle.clamp.proofs.BandNumber.{band-size}
 use borrow.Author.Needs.{needs}
 use Rattle.clamp.proofs.rule7.Statement.{statement}
 use Rattle.clamp.proofs.rule7.Tie as tie
@@ -22,20 +23,22 @@ returns-2 : tie.Need-returns-2
 returns-2 c = rw (sym (c .before .before .before .held .ensures) ∙ c .before .before .if1 .taken, c .before .if2 .left, c .if3 .taken)
 
 step-for-requires : tie.Need-step-for-requires
-step-for-requires c κs = rw (c .band .ensures) (c .before .before .before .before .before .pre .0, band-size (c .before .before .before .before .before .args .net))
+step-for-requires c κs = let a = c .before .before .before .before .before .before .args in rw (c .band .ensures) (band-size (a .edges) (a .net))
 
 clamp-from-requires : tie.Need-clamp-from-requires
 clamp-from-requires c κs =
-    let free = c .before .before .before in
-    let s = free .before .before .before .before in
-    rw (c .base .ensures, c .before .step-for .ensures)
-    (base-size (isSwamped (s .args .clamp)) (s .args .target) (s .args .clamp) (s .pre .1 .0) (s .pre .1 .1), step-size (s .args .d) (c .before .before .band .result))
+    let banded = c .before .before .before in
+    let s = banded .before .before .before .before .before .before in
+    rw (c .base .ensures, c .before .before .step-for .ensures) (
+      base-size (isSwamped (s .args .clamp)) (s .args .target) (s .args .clamp) (s .pre .1 .0) (s .pre .1 .1),
+      step-size (s .args .own) (s .pre .0) (banded .band .result) (rw (banded .band .ensures) (band-size (s .args .edges) (s .args .net))),
+    )
 
 returns-3 : tie.Need-returns-3
 returns-3 c =
-    let free = c .before .before .before .before in
-    let s = free .before .before .before .before in
-    rw (sym (free .before .before .before .held .ensures) ∙ free .before .before .if1 .taken, free .before .if2 .left, free .if3 .left, offset-is (s .args .d) (s .pre .0), c .clamp-from .ensures, c .before .base .ensures, c .before .before .step-for .ensures, c .before .before .before .band .ensures)
+    let banded = c .before .before .before .before in
+    let free = banded .before .before in
+    rw (sym (free .before .before .before .held .ensures) ∙ free .before .before .if1 .taken, free .before .if2 .left, free .if3 .left, c .clamp-from .ensures, c .before .base .ensures, c .before .before .before .step-for .ensures, banded .band .ensures)
 
 returns-4 : tie.Need-returns-4
 returns-4 c = rw (sym (c .before .held .ensures) ∙ c .if1 .left)

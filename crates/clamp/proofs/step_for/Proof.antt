@@ -1,33 +1,35 @@
--- `clamp::step_for` meets its contract: the table's entry for the direction and the band, widened.
+-- `clamp::step_for` meets its contract: the step at the band's number.
 -- Assumes nothing.
-use mathlib.Core.Path.{ap, _∙_}
-use mir.Syntax.{w16, w64}
+use mathlib.Core.Path.{_≡_}
+use native.Mathlib.Omega.{arith}
 use borrow.Author.Needs.{needs}
-use Rattle.signed.proofs.Widening.{cast-fits, cast-same}
-use Rattle.units.specs.Units.{hundredths}
-use Rattle.clamp.specs.Internal.{widened}
-use Rattle.clamp.proofs.StepTable.{at-each}
 use Rattle.clamp.proofs.step_for.Statement.{statement}
 use Rattle.clamp.proofs.step_for.Tie as tie
 
-cast-wide : tie.Need-cast-wide
-cast-wide c = cast-fits w16 w64 tt (c .entry-for .result) (c .entry-for .ok)
-
 returns : tie.Need-returns
-returns c =
-    let table = c .before .before .steps in
-    let asked = c .before .before .before .args in
-    ap hundredths (cast-same w16 w64 tt (c .entry-for .result) (c .entry-for .ok))
-    ∙ ap widened (c .entry-for .ensures)
-    ∙ at-each (table .result) (table .ensures) (asked .d) (asked .band)
+returns c = rw (c .before .match .keys1) (search needs)
+
+returns-2 : tie.Need-returns-2
+returns-2 c = rw (c .before .match .keys2) (search needs)
+
+returns-3 : tie.Need-returns-3
+returns-3 c = rw (c .before .match .keys3) (search needs)
+
+returns-4 : tie.Need-returns-4
+returns-4 c =
+    let r = c .before .match .rest in
+    let e : c .before .before .args .band ≡ 3 = omega (arith, r .1, r .0 .1, r .0 .0 .1, c .before .before .pre) in
+    rw e (search needs)
 
 pub step-for-spec : {M : Type 1} → statement M
 step-for-spec =
     tie.close
     (tie.spec
-    (λ c κs. search needs)
     (λ c. search needs)
     (λ c. search needs)
-    (λ c κs. search needs)
-    cast-wide
-    returns)
+    (λ c. search needs)
+    (λ c. search needs)
+    returns
+    returns-2
+    returns-3
+    returns-4)

@@ -6,7 +6,7 @@ use native.Mathlib.Omega.{arith}
 use Rattle.signed.proofs.Calc.{sum-fits}
 use Rattle.units.specs.declared.Cents.{Cents}
 use Rattle.units.specs.Units.{_+ᶜ_}
-use Rattle.rules.specs.Interval.{settings, atThreshold}
+use Rattle.rules.specs.Interval.{atThreshold}
 use borrow.Author.Needs.{needs}
 use Rattle.sums.proofs.rule3.Statement.{statement}
 use Rattle.sums.proofs.rule3.Tie as tie
@@ -19,13 +19,13 @@ plus-requires c κs =
 returns : tie.Need-returns
 returns c =
     let a = c .before .before .before .before .before .args in
-    let e : atThreshold settings (a .amount +ᶜ a .e .next) ≡ true = ap (λ (x : Cents). atThreshold settings x) (sym (c .before .before .before .plus .ensures)) ∙ sym (c .before .before .at-most .ensures) ∙ c .before .if1 .taken in
+    let e : atThreshold (a .threshold) (a .amount +ᶜ a .e .next) ≡ true = ap (λ (x : Cents). atThreshold (a .threshold) x) (sym (c .before .before .before .plus .ensures)) ∙ sym (c .before .before .at-most .ensures) ∙ c .before .if1 .taken in
     rw e
 
 returns-2 : tie.Need-returns-2
 returns-2 c =
     let a = c .before .before .before .before .args in
-    let e : atThreshold settings (a .amount +ᶜ a .e .next) ≡ false = ap (λ (x : Cents). atThreshold settings x) (sym (c .before .before .plus .ensures)) ∙ sym (c .before .at-most .ensures) ∙ c .if1 .left in
+    let e : atThreshold (a .threshold) (a .amount +ᶜ a .e .next) ≡ false = ap (λ (x : Cents). atThreshold (a .threshold) x) (sym (c .before .before .plus .ensures)) ∙ sym (c .before .at-most .ensures) ∙ c .if1 .left in
     rw e
 
 pub rule3-spec : {M : Type 1} → statement M

@@ -1,33 +1,45 @@
 -- `tracker::step_all` meets its contract: after d turns the first d directions are stepped.
 -- Assumes nothing.
-use mathlib.Core.Path.{_∙_}
-use Prim.Native.Nat.{_-_, _≤_}
+use mathlib.Core.Path.{_≡_, refl, _∙_}
+use Prim.Native.Nat.{ℕ, _-_, _≤_}
 use native.Mathlib.Omega.{arith}
 use borrow.Author.Needs.{needs}
+use Rattle.rules.specs.declared.Event.{Event}
+use Rattle.rules.specs.declared.Direction.{Direction}
+use Rattle.rules.specs.declared.Settings.{Settings}
+use Rattle.rules.specs.Interval.{stepOf}
 use Rattle.rules.specs.Tracker.{blank}
 use Rattle.rules.proofs.Directions.{MadeBefore, none-made, one-more, all-made}
+use Rattle.step.specs.Internal.{limitsOf, alone}
 use Rattle.tracker.specs.Internal.{stepped}
 use Rattle.tracker.proofs.step_all.Statement.{statement}
 use Rattle.tracker.proofs.step_all.Tie as tie
 
+-- a direction is stepped by what it reads of the settings
+by-limits : (set : Settings) (d : ℕ) (e : Event) (s : Direction) → stepOf (alone (limitsOf set d)) 0 e s ≡ stepOf set d e s
+unfolding stepOf
+by-limits set d e s = refl
+
 abbrev Inv-loop : tie.InvT-loop
-Inv-loop events out₀ d₀ out d = (d ≤ 8) × MadeBefore (stepped events out₀) blank d out₀ out
+Inv-loop events threshold edges all out₀ d₀ out d = (d ≤ 8) × MadeBefore (stepped (record { threshold = threshold; edges = edges; directions = all }) events out₀) blank d out₀ out
 
 abbrev μ-loop : tie.MeasureT-loop
-μ-loop events out₀ d₀ out d = 8 - d
+μ-loop events threshold edges all out₀ d₀ out d = 8 - d
 
 loop-holds : tie.Need-loop-holds Inv-loop μ-loop
-loop-holds c = (search needs, none-made (stepped (c .args .t1) (c .args .directions)) blank (c .args .directions) (search needs))
+loop-holds c = let a = c .before .before .before .args in (search needs, none-made (stepped (a .settings) (a .t2) (a .directions)) blank (a .directions) (search needs))
 
 step-requires : tie.Need-step-requires Inv-loop μ-loop
 step-requires c κs =
-    let l = c .before .before .before .loop in
-    rw (l .inv .1 .others (l .d) (omega arith)) (c .before .before .before .before .pre .each (l .d) (c .before .before .loop-test .taken))
+    let h = c .before .before .before .before in
+    let l = h .loop in
+    rw (l .inv .1 .others (l .d) (omega arith)) (h .before .before .before .before .pre .each (l .d) (c .before .before .before .loop-test .taken))
 
 loop-again : tie.Need-loop-again Inv-loop μ-loop
 loop-again c =
-    let l = c .before .before .before .before .loop in
-    (search needs, one-more _ blank (l .inv .1) (search needs) _ (c .step .ensures ∙ rw (l .inv .1 .others (l .d) (omega arith))))
+    let h = c .before .before .before .before .before in
+    let l = h .loop in
+    (search needs, one-more _ blank (l .inv .1) (search needs) _ (c .step .ensures ∙ by-limits (h .before .before .before .before .args .settings) (l .d) _ _ ∙ rw (l .inv .1 .others (l .d) (omega arith))))
 
 returns : tie.Need-returns Inv-loop μ-loop
 returns c = all-made _ blank (c .before .loop .inv .1) (omega arith)
@@ -39,6 +51,8 @@ step-all-spec =
     Inv-loop
     μ-loop
     loop-holds
+    (λ c. search needs)
+    (λ c. search needs)
     (λ c. search needs)
     (λ c. search needs)
     (λ c. search needs)

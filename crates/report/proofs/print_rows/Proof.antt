@@ -1,0 +1,32 @@
+-- `report::print_rows` is safe: the tracker promises the bounds of its rows.
+-- Assumes nothing.
+use Prim.Native.Nat.{_-_, _≤_}
+use borrow.Author.Needs.{needs}
+use Rattle.report.proofs.print_rows.Statement.{statement}
+use Rattle.report.proofs.print_rows.Tie as tie
+
+abbrev Inv-loop : tie.InvT-loop
+Inv-loop t d₀ d = d ≤ 8
+
+abbrev μ-loop : tie.MeasureT-loop
+μ-loop t d₀ d = 8 - d
+
+row-requires : tie.Need-row-requires Inv-loop μ-loop
+row-requires c κs = c .before .before .pre
+
+print-row-requires : tie.Need-print-row-requires Inv-loop μ-loop
+print-row-requires c κs = c .row .ensures .bounded
+
+pub print-rows-spec : {M : Type 1} → statement M
+print-rows-spec =
+    tie.close
+    (tie.spec
+    Inv-loop
+    μ-loop
+    (λ c. search needs)
+    row-requires
+    print-row-requires
+    (λ c. search needs)
+    (λ c. search needs)
+    (λ c. search needs)
+    (λ c. search needs))
