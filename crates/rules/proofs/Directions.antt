@@ -12,7 +12,7 @@ use Rattle.rules.specs.Market.{ofDirections}
 
 module _ {A : Type 0} (f : ℕ → A) (default : A) where
   -- f of m numbers from k on: of eight from 0 on it is `ofDirections f`
-  abbrev from : ℕ → ℕ → List A
+  abbrev pub from : ℕ → ℕ → List A
   from k zero = []
   from k (suc m) = f k ∷ from (suc k) m
 

@@ -2,7 +2,7 @@
 -- Assumes nothing.
 use mathlib.Core.Path.{_≡_, refl}
 use mathlib.Core.List.{List, [], _∷_, map}
-use Prim.Native.Nat.{ℕ, zero, suc, _+_, _*_}
+use Prim.Native.Nat.{ℕ, _+_, _*_}
 use lib.IntN.{ℤ, pos}
 use lib.ListN.{getD, set, replicate}
 use Rattle.signed.specs.Range.{minus}
@@ -15,6 +15,7 @@ use Rattle.rules.specs.Market.{ofDirections}
 use Rattle.rules.specs.Refusal.{each, insideSpans, rising, openConditions, openOutcome}
 use Rattle.rules.specs.Tracker.{openingWith, openOf}
 use Rattle.rules.specs.Figures.{halves}
+use Rattle.rules.proofs.Directions.{from}
 
 -- ---- settings by their 44 values
 -- The threshold, three edges, four steps for each direction, an offset for each.
@@ -53,14 +54,9 @@ unfolding each insideSpans rising openConditions openOutcome openOf
 nine-to-twenty = refl
 
 -- ---- 19, a value outside its span
--- m numbers from k on
-abbrev from : ℕ → ℕ → List ℕ
-from k zero = []
-from k (suc m) = k ∷ from (suc k) m
-
 -- Each of the 44, above the highest span and below the lowest.
 abbrev eachValueIs : ℤ → List Outcome
-eachValueIs z = map (λ k. settingsAre (set midway k z)) (from 0 44)
+eachValueIs z = from (λ k. settingsAre (set midway k z)) Accepted 0 44
 
 pub each-of-44 : (eachValueIs (pos 100000001) ≡ replicate 44 (Refused 19)) × (eachValueIs (minus 1000000001) ≡ replicate 44 (Refused 19))
 unfolding each insideSpans rising openConditions openOutcome

@@ -11,25 +11,25 @@ use Rattle.rules.specs.declared.Settings.{Settings}
 use Rattle.rules.specs.Settings.{ownAt}
 use Rattle.rules.specs.Refusal.{highestNumber, directionOk}
 use Rattle.rules.specs.Bounds.{highestResidue, highestNext, Bounds}
-use Rattle.step.specs.declared.Limits.{Limits}
+use Rattle.step.specs.declared.Terms.{Terms}
 
 -- what direction d reads of the settings
-abbrev pub limitsOf : Settings → ℕ → Limits
-limitsOf set d = record { threshold = set .threshold; edges = set .edges; own = ownAt (set .directions) d }
+abbrev pub termsOf : Settings → ℕ → Terms
+termsOf set d = record { threshold = set .threshold; edges = set .edges; own = ownAt (set .directions) d }
 
 -- settings in which a direction stands alone, as direction 0
-abbrev pub alone : Limits → Settings
-alone limits = record { threshold = limits .threshold; edges = limits .edges; directions = limits .own ∷ [] }
+abbrev pub alone : Terms → Settings
+alone terms = record { threshold = terms .threshold; edges = terms .edges; directions = terms .own ∷ [] }
 
 -- what rule 7 is asked: a direction's own settings, its interval's target, and the clamp for n
-pub record Movable (limits : Limits) (e : Event) (kept : Hundredths) : Type 0 where
-  pub own : directionOk (limits .own) ≡ true
+pub record Movable (terms : Terms) (e : Event) (kept : Hundredths) : Type 0 where
+  pub own : directionOk (terms .own) ≡ true
   pub target : natAbs (e .target .0) ≤ 2000000
   pub clamp : natAbs (kept .0) ≤ 2000000
 
 -- a direction's settings, its state and the interval that comes next, for a step
-pub record Steppable (limits : Limits) (e : Event) (s : Direction) : Type 0 where
-  pub own : directionOk (limits .own) ≡ true
+pub record Steppable (terms : Terms) (e : Event) (s : Direction) : Type 0 where
+  pub own : directionOk (terms .own) ≡ true
   pub number : e .n ≤ highestNumber
   pub residue : natAbs (e .residue .0) ≤ highestResidue
   pub next : natAbs (e .next .0) ≤ highestNext

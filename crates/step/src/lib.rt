@@ -10,7 +10,7 @@ ghost use Rattle.rules.specs.Interval.{rule7, stepOf};
 ghost use Rattle.step.specs.Internal.{alone, Movable, Steppable};
 
 // What one direction reads of the settings: handed on alone, so that they are not copied whole for each direction.
-pub struct Limits {
+pub struct Terms {
     pub threshold: Cents,
     pub edges: [Cents; 3],
     pub own: DirectionSettings,
@@ -18,32 +18,32 @@ pub struct Limits {
 
 // 7. The clamp for n+1.
 fn moved_clamp(
-    limits: Limits,
+    terms: Terms,
     e: Event,
     after: Period,
     suspended: bool,
     net: Cents,
     clamp: Hundredths,
 ) -> Hundredths
-    requires { ⌜ Movable limits e clamp ⌝ }
-    ensures { λ r. ⌜ r ≡ rule7 (limits .edges) (limits .own) (e .blocked) (e .target) after suspended net clamp ⌝ }
+    requires { ⌜ Movable terms e clamp ⌝ }
+    ensures { λ r. ⌜ r ≡ rule7 (terms .edges) (terms .own) (e .blocked) (e .target) after suspended net clamp ⌝ }
 {
-    let edges = limits.edges;
-    let own = limits.own;
+    let edges = terms.edges;
+    let own = terms.own;
     let target = e.target;
     clamp::rule7(edges, own, e.blocked, target, after, suspended, net, clamp)
 }
 
 // One interval of one direction: the seven rules in turn.
-pub fn step(limits: Limits, e: Event, s: Direction) -> Direction
-    requires { ⌜ Steppable limits e s ⌝ }
-    ensures { λ r. ⌜ r ≡ stepOf (alone limits) 0 e s ⌝ }
+pub fn step(terms: Terms, e: Event, s: Direction) -> Direction
+    requires { ⌜ Steppable terms e s ⌝ }
+    ensures { λ r. ⌜ r ≡ stepOf (alone terms) 0 e s ⌝ }
 {
     let kept_sums = s.sums;
     let begun = sums::rule1(e.n, kept_sums);
     let residue = e.residue;
     let sums = sums::rule2(e.flag, sums::clears_at(e.n), residue, begun);
-    let threshold = limits.threshold;
+    let threshold = terms.threshold;
     let reach = sums::rule3(threshold, e, sums::amount(sums));
     let period = s.period;
     let managed = period::rule4(e.n, e.flag, reach, period);
@@ -55,7 +55,7 @@ pub fn step(limits: Limits, e: Event, s: Direction) -> Direction
     let kept_counts = s.counts;
     let counts = clamp::rule5(before, e.status, clamp, current, after, kept_counts);
     let suspended = clamp::rule6(before, after, net, counts, s.suspended);
-    let moved = moved_clamp(limits, e, after, suspended, net, clamp);
+    let moved = moved_clamp(terms, e, after, suspended, net, clamp);
     let next = e.next;
     let leftover = e.leftover;
     Direction {

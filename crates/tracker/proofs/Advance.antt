@@ -22,7 +22,7 @@ use Rattle.rules.proofs.Replay.{event-number}
 use Rattle.rules.proofs.RecordRanges.{target-sum-bound, share-bound}
 use Rattle.rules.specs.Market.{ofDirections}
 use Rattle.events.specs.Internal.{Readable}
-use Rattle.step.specs.Internal.{limitsOf, Steppable}
+use Rattle.step.specs.Internal.{termsOf, Steppable}
 use Rattle.tracker.specs.Internal.{noEvent, AllSteppable, stepped, allStepped}
 
 event-target : (shares : List ℕ) (d : ℕ) (b : List ℕ) → eventOf shares d b .target ≡ targetSum b d
@@ -47,7 +47,7 @@ module _ (t : Tracker) (came : Came t) (b : List ℕ) (ok : accepts (t .awaited)
       go i (yes l) = rw shares-are (share-bound (came .opening) i l)
       go i (no l) = rw (List·getD-eq-default (t .shares) 0 {n = i} (omega arith)) (omega arith)
 
-  steppable : (d : ℕ) → d < 8 → Steppable (limitsOf (t .settings) d) (eventOf (t .shares) d b) (directionOf t d)
+  steppable : (d : ℕ) → d < 8 → Steppable (termsOf (t .settings) d) (eventOf (t .shares) d b) (directionOf t d)
   steppable d l =
       let sizes = event-size (came .opening) d b own in
       record {

@@ -12,7 +12,7 @@ use rules::SWAMPED;
 use rules::Settings;
 use rules::Sums;
 use rules::Tracker;
-use step::Limits;
+use step::Terms;
 use units::Cents;
 use units::Grains;
 use units::Hundredths;
@@ -24,7 +24,7 @@ ghost use Rattle.rules.specs.Interval.{fresh};
 ghost use Rattle.rules.specs.Refusal.{each, shareOk};
 ghost use Rattle.rules.specs.Tracker.{tracker, accepts, advanced, rowOf, noRow};
 ghost use Rattle.tracker.specs.Promise.{Came, OpenPromise, IntervalPromise, RowPromise, openingWith, opening};
-ghost use Rattle.tracker.specs.Internal.{AllSteppable, allStepped, refusedOpening};
+ghost use Rattle.tracker.specs.Internal.{AllSteppable, allStepped, refusedOpening, acceptedOpening};
 
 // Is no share above 1000?
 fn shares_ok(shares: [u16; 6]) -> bool
@@ -91,6 +91,17 @@ fn refused_opening(number: u8) -> Answer
     }
 }
 
+// An accepted opening gives a fresh tracker with all that it was given.
+fn accepted_opening(first: u32, shares: [u16; 6], settings: Settings) -> Answer
+    ensures { λ r. ⌜ r ≡ acceptedOpening first shares settings ⌝ }
+{
+    let t = fresh_tracker(settings, first, shares);
+    Answer {
+        outcome: Outcome::Accepted,
+        tracker: t,
+    }
+}
+
 // Opens a tracker at the first n, with the From loss shares of the six physical interconnectors in thousandths, and with settings (N2).
 pub fn open_with_settings(first: u32, shares: [u16; 6], settings: Settings) -> Answer
     ensures { λ r. ⌜ OpenPromise (openingWith first shares settings) r ⌝ }
@@ -111,11 +122,7 @@ pub fn open_with_settings(first: u32, shares: [u16; 6], settings: Settings) -> A
     if !settings::rising(edges) {
         return refused_opening(20);
     }
-    let t = fresh_tracker(settings, first, shares);
-    Answer {
-        outcome: Outcome::Accepted,
-        tracker: t,
-    }
+    accepted_opening(first, shares, settings)
 }
 
 // The same with document 01's settings.
@@ -137,14 +144,14 @@ fn step_all(settings: Settings, events: [Event; 8], directions: [Direction; 8]) 
     let mut out = directions;
     for d in 0..8 {
         let own = all[d];
-        let limits = Limits {
+        let terms = Terms {
             threshold: threshold,
             edges: edges,
             own: own,
         };
         let e = events[d];
         let s = out[d];
-        let after = step::step(limits, e, s);
+        let after = step::step(terms, e, s);
         out[d] = after;
     }
     out

@@ -27,14 +27,14 @@ addable c =
     let e = s .args .e in
     rw (sums-is c) (rule2-addable (e .flag) (clearsAt (place (e .n))) (e .residue) (rule1 (e .n) (s .args .s .sums)) (growable s))
 
-managed-is : (c : tie.After-rule4) → let two = c .before .before .before .before in let a = two .before .before .before .before .before .args in c .rule4 .result ≡ managedAfter (alone (a .limits)) (a .e) (a .s)
+managed-is : (c : tie.After-rule4) → let two = c .before .before .before .before in let a = two .before .before .before .before .before .args in c .rule4 .result ≡ managedAfter (alone (a .terms)) (a .e) (a .s)
 managed-is c = rw (c .rule4 .ensures, c .before .rule3 .ensures, c .before .before .amount .ensures, sums-is (c .before .before .before .before))
 
 counts-is : (c : tie.After-rule5)
     → let before = c .before .before .before .before .before in
     let two = before .before .before .before .before .before in
     let a = two .before .before .before .before .before .args in
-    c .rule5 .result ≡ countsAfter (alone (a .limits)) (a .e) (a .s)
+    c .rule5 .result ≡ countsAfter (alone (a .terms)) (a .e) (a .s)
 counts-is c =
     let before = c .before .before .before .before .before in
     rw (c .rule5 .ensures, before .held .ensures, managed-is (before .before), sums-is (before .before .before .before .before .before))
@@ -43,7 +43,7 @@ suspended-is : (c : tie.After-rule6)
     → let before = c .before .before .before .before .before .before in
     let two = before .before .before .before .before .before in
     let a = two .before .before .before .before .before .args in
-    c .rule6 .result ≡ suspendedAfter (alone (a .limits)) (a .e) (a .s)
+    c .rule6 .result ≡ suspendedAfter (alone (a .terms)) (a .e) (a .s)
 suspended-is c =
     let before = c .before .before .before .before .before .before in
     rw (c .rule6 .ensures, before .held .ensures, counts-is (c .before), managed-is (before .before), sums-is (before .before .before .before .before .before))

@@ -77,7 +77,7 @@ returns-6 c =
     let rising = c .before in
     let a = rising .before .before .before .before .before .before .before .before .before .args in
     let e : openOutcome (a .first) (a .shares) (a .settings) ≡ Accepted = accepted-past 4 (rising-ok rising) refl in
-    open-promise (openingWith (a .first) (a .shares) (a .settings)) (rw (c .fresh-tracker .ensures) (sym (accepted (a .first) (a .shares) (a .settings) e)))
+    open-promise (openingWith (a .first) (a .shares) (a .settings)) (c .accepted-opening .ensures ∙ sym (accepted (a .first) (a .shares) (a .settings) e))
 
 pub open-with-settings-spec : {M : Type 1} → statement M
 open-with-settings-spec =

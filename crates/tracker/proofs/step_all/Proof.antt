@@ -10,15 +10,15 @@ use Rattle.rules.specs.declared.Settings.{Settings}
 use Rattle.rules.specs.Interval.{stepOf}
 use Rattle.rules.specs.Tracker.{blank}
 use Rattle.rules.proofs.Directions.{MadeBefore, none-made, one-more, all-made}
-use Rattle.step.specs.Internal.{limitsOf, alone}
+use Rattle.step.specs.Internal.{termsOf, alone}
 use Rattle.tracker.specs.Internal.{stepped}
 use Rattle.tracker.proofs.step_all.Statement.{statement}
 use Rattle.tracker.proofs.step_all.Tie as tie
 
 -- a direction is stepped by what it reads of the settings
-by-limits : (set : Settings) (d : ℕ) (e : Event) (s : Direction) → stepOf (alone (limitsOf set d)) 0 e s ≡ stepOf set d e s
+by-terms : (set : Settings) (d : ℕ) (e : Event) (s : Direction) → stepOf (alone (termsOf set d)) 0 e s ≡ stepOf set d e s
 unfolding stepOf
-by-limits set d e s = refl
+by-terms set d e s = refl
 
 abbrev Inv-loop : tie.InvT-loop
 Inv-loop events threshold edges all out₀ d₀ out d = (d ≤ 8) × MadeBefore (stepped (record { threshold = threshold; edges = edges; directions = all }) events out₀) blank d out₀ out
@@ -39,7 +39,7 @@ loop-again : tie.Need-loop-again Inv-loop μ-loop
 loop-again c =
     let h = c .before .before .before .before .before in
     let l = h .loop in
-    (search needs, one-more _ blank (l .inv .1) (search needs) _ (c .step .ensures ∙ by-limits (h .before .before .before .before .args .settings) (l .d) _ _ ∙ rw (l .inv .1 .others (l .d) (omega arith))))
+    (search needs, one-more _ blank (l .inv .1) (search needs) _ (c .step .ensures ∙ by-terms (h .before .before .before .before .args .settings) (l .d) _ _ ∙ rw (l .inv .1 .others (l .d) (omega arith))))
 
 returns : tie.Need-returns Inv-loop μ-loop
 returns c = all-made _ blank (c .before .loop .inv .1) (omega arith)
