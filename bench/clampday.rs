@@ -11,6 +11,7 @@ use std::io::{self, ErrorKind, Read, Write};
 use std::ops::{Range, RangeInclusive};
 
 const RECORD: usize = 168;
+const ISSUE: usize = 13;
 const TRAILER: usize = 16;
 const MOST_BYTES: usize = 65_536;
 const MOST_RECORDS: usize = 288;
@@ -120,14 +121,20 @@ fn read_journal(journal: &[u8]) -> Result<&[u8], Refusal> {
     if (first, last) != (u32_at(trailer, 8), u32_at(trailer, 12)) {
         return Err(13);
     }
-    let numbers = || records.chunks_exact(RECORD).map(|record| u32_at(record, 0));
-    if numbers()
-        .zip(numbers().skip(1))
-        .any(|(n, after)| n.checked_add(1) != Some(after))
+    let all = || records.chunks_exact(RECORD);
+    if !all()
+        .zip(all().skip(1))
+        .all(|(before, after)| follows(before, after))
     {
         return Err(14);
     }
     Ok(records)
+}
+
+/// A higher issue of the same n, or the next n and any issue.
+fn follows(before: &[u8], after: &[u8]) -> bool {
+    let (n, next) = (u32_at(before, 0), u32_at(after, 0));
+    n == next && before[ISSUE] < after[ISSUE] || n.checked_add(1) == Some(next)
 }
 
 // ----------------------------------------------------------------- record
@@ -215,11 +222,11 @@ impl Record<'_> {
     }
 
     /// No unknown flag, pre-dispatch in a half-hour's last interval only, and
-    /// the three bytes after the statuses zero.
+    /// the two bytes after the issue zero.
     fn flags_fit(self) -> bool {
         self.0[4] <= REVIEW | LOOP | PRE_DISPATCH
             && (self.n() % 6 == 5 || !self.has(PRE_DISPATCH))
-            && self.0[13..16] == [0; 3]
+            && self.0[14..16] == [0; 2]
     }
 
     fn line_fits(self, line: usize) -> bool {
@@ -545,15 +552,20 @@ fn push_row(listing: &mut Vec<u8>, name: &str, direction: &Direction, input: &In
     push_number(listing, direction.clamp, b'\n');
 }
 
-/// The rows of a whole journal, up to its end or its first refusal.
+/// The rows of a whole journal, up to its end or its first refusal. Issues of
+/// one n rise, so the record to run is the last of its n.
 fn push_rows(journal: &[u8], listing: &mut Vec<u8>) -> Result<(), Refusal> {
     let records = read_journal(journal)?;
     if records.is_empty() {
         return Ok(());
     }
     let mut tracker = Tracker::open(u32_at(records, 0), [500; 6])?;
-    for record in records.chunks_exact(RECORD) {
-        tracker.interval(Record(record.try_into().unwrap()), listing)?;
+    let mut records = records.chunks_exact(RECORD).peekable();
+    while let Some(record) = records.next() {
+        let same = |next: &&[u8]| u32_at(next, 0) == u32_at(record, 0);
+        if !records.peek().is_some_and(same) {
+            tracker.interval(Record(record.try_into().unwrap()), listing)?;
+        }
     }
     Ok(())
 }

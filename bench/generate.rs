@@ -73,7 +73,8 @@ struct Record {
     n: u32,
     flags: u8,
     statuses: [u8; 8],
-    zeros: [u8; 3],
+    issue: u8,
+    zeros: [u8; 2],
     prices: [i32; 4],
     lines: [[i32; 3]; 6],
     pre_dispatch_prices: [i32; 4],
@@ -85,6 +86,7 @@ impl Record {
         bytes.extend(self.n.to_le_bytes());
         bytes.push(self.flags);
         bytes.extend(self.statuses);
+        bytes.push(self.issue);
         bytes.extend(self.zeros);
         let now = self.prices.iter().chain(self.lines.as_flattened());
         let pre_dispatch = self
@@ -537,7 +539,7 @@ fn damage_record(random: &mut Random, record: &mut Record) {
         0 => record.flags |= 8 << random.below(5),
         1 => record.flags |= 4,
         2 => record.flags &= !4,
-        3 => record.zeros[random.below(3)] = 1 + random.below(255) as u8,
+        3 => record.zeros[random.below(2)] = 1 + random.below(255) as u8,
         4 => record.statuses[random.below(8)] = random.pick(&[3, 7, 8, 9, 12, 128, 255]),
         5 => record.statuses[random.below(8)] = random.below(8) as u8,
         6 => record.prices[region] = beyond(random, PRICE),
@@ -552,12 +554,19 @@ fn damage_record(random: &mut Random, record: &mut Record) {
     }
 }
 
-/// Spoils the order of n; the trailer is made from the records afterwards.
+/// Spoils the order of n and issue; the trailer is made from the records afterwards.
 fn damage_order(random: &mut Random, records: &mut Vec<Record>) {
     let (at, other) = (random.below(records.len()), random.below(records.len()));
-    match random.below(6) {
+    match random.below(8) {
         0 => drop(records.remove(at)),
         1 => records.insert(at, records[other].clone()),
+        6 => {
+            let again = records[at].clone();
+            let higher = random.pick(&[0, 0, 1, 255]);
+            records.insert(at, again);
+            records[at + 1].issue = records[at].issue.wrapping_add(higher);
+        }
+        7 => records[at].issue = random.pick(&[0, 1, 255]),
         2 => records.swap(at, other),
         3 => records.reverse(),
         4 => records[at].n = random.pick(&[0, 1, LAST_INTERVAL, LAST_INTERVAL + 1, u32::MAX]),
@@ -611,6 +620,31 @@ fn damage_length(random: &mut Random, bytes: &mut Vec<u8>) {
     }
 }
 
+// ------------------------------------------------------------------ issues
+
+/// Gives records an issue, and puts earlier issues of some n before them:
+/// superseded ones, of which many would be refused.
+fn reissue(random: &mut Random, records: Vec<Record>) -> Vec<Record> {
+    let chance = random.pick(&[3, 20, 60]);
+    let mut issued = Vec::new();
+    for mut record in records {
+        record.issue = random.pick(&[0, 1, 2, 7, 128, 254, 255]);
+        if random.percent(chance) {
+            let (first, most) = (issued.len(), 1 + random.below(3));
+            let mut earlier = record.clone();
+            while earlier.issue > 0 && issued.len() < first + most {
+                earlier.issue = random.below(earlier.issue.into()) as u8;
+                if random.percent(60) {
+                    damage_record(random, &mut earlier);
+                }
+                issued.insert(first, earlier.clone());
+            }
+        }
+        issued.push(record);
+    }
+    issued
+}
+
 // ---------------------------------------------------------------- journal
 
 fn count_of_records(random: &mut Random) -> usize {
@@ -623,7 +657,8 @@ fn count_of_records(random: &mut Random) -> usize {
     }
 }
 
-/// One random journal; about one in four is damaged somewhere.
+/// One random journal. In two of five some intervals are issued again; about
+/// one in four is damaged somewhere.
 fn random_journal(random: &mut Random) -> Vec<u8> {
     let count = count_of_records(random);
     let near_end = LAST_INTERVAL as usize + 1 - 6 * (1 + random.below(12));
@@ -639,6 +674,10 @@ fn random_journal(random: &mut Random) -> Vec<u8> {
     let mut records: Vec<Record> = (first..first + count)
         .map(|n| day.record(n as u32))
         .collect();
+    if random.percent(40) {
+        records = reissue(random, records);
+    }
+    let count = records.len();
     let damage = if random.percent(25) {
         random.below(5)
     } else {
@@ -736,7 +775,16 @@ fn write_cost(directory: &str) -> io::Result<()> {
     for count in [36, 72, 144, 288] {
         write(&format!("busy-{count}"), &busy[..count])?;
     }
-    Ok(())
+    let twice = |record: &Record| {
+        [0, 1].map(|issue| Record {
+            issue,
+            ..record.clone()
+        })
+    };
+    write(
+        "reissued",
+        &busy[..144].iter().flat_map(twice).collect::<Vec<_>>(),
+    )
 }
 
 fn write_random(seed: u64, count: u64) -> io::Result<()> {

@@ -2,6 +2,7 @@
 // gate compares what is printed with stored answers. The arguments are two files a script: its calls, and the records that they refer to.
 use journal::TRAILER;
 use journal_rules::Found;
+use journal_rules::Surviving;
 use journal_rules::Written;
 use libc::STDOUT_FILENO;
 use report::print_number;
@@ -15,6 +16,11 @@ ghost use Rattle.calls.specs.Internal.{callWords, callLength, longest, w
 
 // The length of a call: 52 words of four bytes.
 const CALL: usize = 208;
+
+// The kinds of the calls that are lent a buffer.
+const WRITE: u32 = 9;
+
+const SURVIVORS: u32 = 10;
 
 // More than any script, and any buffer that it writes to, is long.
 const LONGEST: usize = 131072;
@@ -205,41 +211,58 @@ fn weighted_sum(bytes: &[u8]) -> u64
     sum as u64
 }
 
-// The journal of these records, written into the buffer, and all bytes of the buffer afterwards.
+// What a call answers that is lent a buffer: the number, 0 if accepted, how much it gives, and all bytes of the buffer afterwards.
+fn print_lent(number: u8, given: usize, out: &[u8])
+    requires { ⌜ length (now out) ≤ longest ⌝ }
+{
+    print_number(number as u64, b' ');
+    print_number(given as u64, b' ');
+    print_number(weighted_sum(out), b'\n');
+}
+
+// The journal of these records, written into the buffer.
 fn print_written(records: &[u8], out: &mut [u8])
     requires { ⌜ length (now out) ≤ longest ⌝ }
 {
     let written = journal::write(records, out);
     match written {
-        Written::Bytes(n) => {
-            print_number(0, b' ');
-            print_number(n as u64, b' ');
-        }
-        Written::Refused(number) => {
-            print_number(number as u64, b' ');
-            print_number(0, b' ');
-        }
+        Written::Bytes(n) => print_lent(0, n, out),
+        Written::Refused(number) => print_lent(number, 0, out),
     }
-    print_number(weighted_sum(out), b'\n');
 }
 
-// A buffer as it is before a write: not zeros, so that bytes that a write leaves alone are seen. Its length is told, so that it may be cut.
+// The survivors of this journal (N7), written into the buffer.
+fn print_survivors(journal: &[u8], out: &mut [u8])
+    requires { ⌜ length (now out) ≤ longest ⌝ }
+{
+    let given = journal::survivors(journal, out);
+    match given {
+        Surviving::Records(count) => print_lent(0, count as usize, out),
+        Surviving::Refused(number) => print_lent(number, 0, out),
+    }
+}
+
+// A buffer as it is before it is lent: not zeros, so that bytes that a call leaves alone are seen. Its length is told, so that it may be cut.
 fn filled() -> [u8; LONGEST]
     ensures { λ r. ⌜ longest ≡ length r ⌝ }
 {
     [0xA5; LONGEST]
 }
 
-// A write of these records into a buffer of this length.
-fn write_records(records: &[u8], room: usize)
+// A call that is lent a buffer of this length: a write of records, or else the second call on a journal (N7).
+fn lend(kind: u32, bytes: &[u8], room: usize)
     requires { ⌜ room ≤ longest ⌝ }
 {
     let mut out = filled();
-    print_written(records, &mut out[..room]);
+    if kind == WRITE {
+        print_written(bytes, &mut out[..room]);
+    } else {
+        print_survivors(bytes, &mut out[..room]);
+    }
 }
 
-// write AT LEN ROOM
-fn write(call: &[u8], records: &[u8])
+// write AT LEN ROOM; survivors AT LEN ROOM
+fn call_with_buffer(call: &[u8], records: &[u8])
     requires { ⌜ length (now call) ≡ callLength ⌝ }
 {
     let room = word(call, 3) as usize;
@@ -248,7 +271,7 @@ fn write(call: &[u8], records: &[u8])
         return;
     }
     if part_end(call) <= records.len() {
-        write_records(part(call, records), room);
+        lend(word(call, 0), part(call, records), room);
         return;
     }
     no_call();
@@ -265,7 +288,7 @@ fn run_call(t: Tracker, call: &[u8], records: &[u8]) -> Tracker
         2 => return interval(t, call, records),
         7 => row(t, call),
         8 => read(call, records),
-        9 => write(call, records),
+        WRITE | SURVIVORS => call_with_buffer(call, records),
         _ => no_call(),
     }
     t

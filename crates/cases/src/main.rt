@@ -13,7 +13,7 @@ fn print_rows_of(bytes: &[u8]) {
     } = found {
         if count != 0 {
             let opened = tracker::open(first, [500; 6]);
-            report::print_opened(opened, journal::records(bytes));
+            report::print_opened(opened, bytes);
         }
     }
 }

@@ -1,19 +1,27 @@
-// The journal: records end to end with a trailer. A read checks all of it and says what it holds; a write makes one. Every call takes any
-// bytes: what document 01 refuses comes back as its number. What a read and a write return, for every input, is in specs/Promise.
+// The journal: records end to end with a trailer. A read checks all of it and says what it holds; the second call gives the records that survive
+// (N7); a write makes a journal. Every call takes any bytes: what the documents refuse comes back as its number. What they return, for every
+// input, is in journal_rules/specs/Promise.
 use journal_rules::Found;
+use journal_rules::Surviving;
 use journal_rules::Written;
 use rules::Outcome;
 use rules::RECORD;
+ghost use mathlib.Core.Bool.{true};
+ghost use mathlib.Core.List.{flatten};
 ghost use mathlib.Core.Path.{_≡_};
 ghost use Prim.Native.Nat.{_+_, _*_, _<_, _≤_};
 ghost use lib.ListN.{length};
 ghost use Rattle.words.specs.Buffer.{over};
-ghost use Rattle.journal_rules.specs.Journal.{recordLength, trailerLength, numberAt, firstNumber, lastNumber, inOrder, trailerWord, part, badLength, badTrailer, badNumbers, badRecords, readOutcome, recordsOf, journalOf, writeOutcome};
-ghost use Rattle.journal_rules.specs.Internal.{Shaped, countedRecords, Whole};
-ghost use Rattle.journal_rules.specs.Promise.{ReadPromise, WritePromise};
+ghost use Rattle.journal_rules.specs.Journal.{recordLength, trailerLength, numberAt, issueAt, firstNumber, lastNumber, follows, followedAt, inOrder, trailerWord, part, badLength, badTrailer, badNumbers, badRecords, readOutcome, recordsOf, journalOf, writeOutcome};
+ghost use Rattle.journal_rules.specs.Survivors.{survivors, survivorsOutcome};
+ghost use Rattle.journal_rules.specs.Internal.{Shaped, countedRecords, issuedAgain, Whole};
+ghost use Rattle.journal_rules.specs.Promise.{ReadPromise, SurvivorsPromise, WritePromise};
 
 // The length of a trailer.
 pub const TRAILER: usize = 16;
+
+// Where a record has its issue (N7).
+const ISSUE: usize = 13;
 
 // The most records that a journal holds, the longest preface before them, and the longest journal.
 const MOST_RECORDS: usize = 288;
@@ -39,6 +47,14 @@ fn number_at(records: &[u8], i: usize) -> u32
     words::u32_at(records, RECORD * i)
 }
 
+// The issue of record i.
+fn issue_at(records: &[u8], i: usize) -> u8
+    requires { ⌜ recordLength * i + 14 ≤ length (now records) ⌝ }
+    ensures { λ r. ⌜ r ≡ issueAt (now (records .entry)) i ⌝ }
+{
+    records[RECORD * i + ISSUE]
+}
+
 fn first_number(records: &[u8]) -> u32
     ensures { λ r. ⌜ r ≡ firstNumber (now (records .entry)) ⌝ }
 {
@@ -58,16 +74,37 @@ fn last_number(records: &[u8]) -> u32
     number_at(records, count - 1)
 }
 
-// For both refusals 14, of a read and of a write. In u64, where one more than the highest n is no n.
+// Whether a record of number m and issue j may stand after one of number n and issue i (N7). In u64, where one more than the highest n is no n.
+fn follows(n: u32, i: u8, m: u32, j: u8) -> bool
+    ensures { λ r. ⌜ r ≡ follows n i m j ⌝ }
+{
+    if m == n {
+        return i < j;
+    }
+    m as u64 == n as u64 + 1
+}
+
+// Does the record after record k follow it?
+fn followed_at(records: &[u8], k: usize) -> bool
+    requires { ⌜ recordLength * (k + 2) ≤ length (now records) ⌝ }
+    ensures { λ r. ⌜ r ≡ followedAt (now (records .entry)) k ⌝ }
+{
+    follows(
+        number_at(records, k),
+        issue_at(records, k),
+        number_at(records, k + 1),
+        issue_at(records, k + 1),
+    )
+}
+
+// For both refusals 14, of a read and of a write.
 fn in_order(records: &[u8]) -> bool
     ensures { λ r. ⌜ r ≡ inOrder (now (records .entry)) ⌝ }
 {
     let count = records.len() / RECORD;
     let mut i = 0;
     while i + 1 < count {
-        let n = number_at(records, i) as u64;
-        let next = number_at(records, i + 1) as u64;
-        if next != n + 1 {
+        if !followed_at(records, i) {
             return false;
         }
         i += 1;
@@ -197,6 +234,85 @@ pub fn records(journal: &[u8]) -> &[u8]
     ensures { λ r. ⌜ now r ≡ recordsOf (now (journal .entry)) ⌝ }
 {
     counted_records(journal, read(journal))
+}
+
+// Is record i issued again: has the next one the same n? In records that are in order just the superseded ones are, so that nobody need look at
+// the others. For `listing`, which has read the journal; it asks for nothing.
+pub fn issued_again(records: &[u8], i: usize) -> bool
+    ensures { λ r. ⌜ r ≡ issuedAgain (now (records .entry)) i ⌝ }
+{
+    let count = records.len() / RECORD;
+    if count <= i {
+        return false;
+    }
+    let next = i + 1;
+    if next < count {
+        return number_at(records, next) == number_at(records, i);
+    }
+    false
+}
+
+// How many bytes the survivors have.
+fn survivors_length(records: &[u8]) -> usize
+    requires { ⌜ inOrder (now records) ≡ true ⌝ }
+    ensures { λ r. ⌜ r ≡ length (flatten (survivors (now (records .entry)))) ⌝ }
+{
+    let mut bytes = 0;
+    for k in 0..records.len() / RECORD {
+        if issued_again(records, k) {
+            continue;
+        }
+        bytes += RECORD;
+    }
+    bytes
+}
+
+// The survivors, at the start of a buffer that has room for them.
+fn put_survivors(records: &[u8], out: &mut [u8]) -> usize
+    requires { ⌜ (inOrder (now records) ≡ true) × (length (flatten (survivors (now records))) ≤ length (now out)) ⌝ }
+    ensures { λ r. ⌜ r ≡ length (flatten (survivors (now (records .entry)))) ⌝ }
+    ensures { λ r. ⌜ now (out .exit) ≡ over (flatten (survivors (now (records .entry)))) (now (out .entry)) ⌝ }
+{
+    let mut at = 0;
+    for i in 0..records.len() / RECORD {
+        if issued_again(records, i) {
+            continue;
+        }
+        let from = RECORD * i;
+        at = words::put_bytes(&records[from..from + RECORD], out, at);
+    }
+    at
+}
+
+// As a read does, then the room: all is checked here, before the first byte is written.
+fn survivors_outcome(journal: &[u8], room: usize) -> Outcome
+    ensures { λ r. ⌜ r ≡ survivorsOutcome (now (journal .entry)) room ⌝ }
+{
+    let outcome = read_outcome(journal);
+    match outcome {
+        Outcome::Accepted => {
+            if room < survivors_length(part(journal)) {
+                return Outcome::Refused(16);
+            }
+            Outcome::Accepted
+        }
+        Outcome::Refused(k) => Outcome::Refused(k),
+    }
+}
+
+// For each n its record of highest issue, in order of n, at the start of the buffer (N7); the bytes after them keep their values, and on a refusal
+// all do.
+pub fn survivors(journal: &[u8], out: &mut [u8]) -> Surviving
+    ensures { λ a. ⌜ SurvivorsPromise (now (journal .entry)) (now (out .entry)) a (now (out .exit)) ⌝ }
+{
+    let outcome = survivors_outcome(journal, out.len());
+    match outcome {
+        Outcome::Accepted => {
+            let n = put_survivors(part(journal), out);
+            Surviving::Records((n / RECORD) as u32)
+        }
+        Outcome::Refused(k) => Surviving::Refused(k),
+    }
 }
 
 fn bad_records(records: &[u8]) -> bool

@@ -1,8 +1,8 @@
--- What a journal that a read accepts, and records that a write accepts, have passed.
+-- What a journal that a read or the second call (N7) accepts, and records that a write accepts, have passed.
 -- Assumes nothing.
 use mathlib.Core.Path.{_≡_, refl, sym}
-use mathlib.Core.Bool.{true, false, not}
-use mathlib.Core.List.{List}
+use mathlib.Core.Bool.{Bool, true, false, not, cond}
+use mathlib.Core.List.{List, [], _∷_, _++_, flatten}
 use Prim.Native.Nat.{ℕ, _+_, _*_, _%_, _≤_}
 use native.Mathlib.Omega.{arith}
 use borrow.Author.Tests.{ltb-false, le-ltb, eqb-true, not-false}
@@ -12,7 +12,8 @@ use Rattle.tracker.proofs.Promise.{both-false}
 pub use Rattle.tracker.proofs.Promise.{accepted-iff}
 use Rattle.journal_rules.specs.declared.Found.{Found}
 use Rattle.journal_rules.specs.declared.Found.the-variants.{Journal, Refused}
-use Rattle.journal_rules.specs.Journal.{Outcome, Accepted, RefusedBy, recordLength, longestPreface, mostRecords, trailerLength, longestJournal, count, distance, first, last, preface, part, recordCount, firstNumber, lastNumber, inOrder, badLength, badTrailer, badNumbers, readConditions, readOutcome, foundBy, readOf, recordsBy, recordsOf, badRecords, writeConditions, writeOutcome}
+use Rattle.journal_rules.specs.Journal.{Outcome, Accepted, RefusedBy, Condition, judged, each, recordLength, longestPreface, mostRecords, trailerLength, longestJournal, count, distance, first, last, preface, part, recordCount, firstNumber, lastNumber, inOrder, badLength, badTrailer, badNumbers, readConditions, readOutcome, foundBy, readOf, recordsBy, recordsOf, badRecords, writeConditions, writeOutcome}
+use Rattle.journal_rules.specs.Survivors.{survivors, survivorsConditions, survivorsOutcome}
 use Rattle.journal_rules.specs.Internal.{Shaped, countedRecords, Whole}
 use Rattle.journal_rules.proofs.Laws.{records-found}
 
@@ -88,6 +89,15 @@ records-whole s = go (readOutcome s) refl
         rw (records-found s e) (record { whole = omega arith; few = omega arith })
     go (RefusedBy k) e = rw e (record { whole = refl; few = omega arith })
 
+-- and they are in order
+pub records-ordered : (s : List ℕ) → inOrder (recordsOf s) ≡ true
+unfolding recordsOf inOrder each
+records-ordered s = go (readOutcome s) refl
+  where
+    go : (o : Outcome) → readOutcome s ≡ o → inOrder (recordsBy o s) ≡ true
+    go Accepted e = sound s e .order
+    go (RefusedBy k) e = refl
+
 -- the records by what a read gave are the journal's
 pub counted-records : (s : List ℕ) → countedRecords (readOf s) s ≡ recordsOf s
 unfolding readOf recordsOf part
@@ -115,4 +125,35 @@ writable r room e =
       records = record { whole = same (length r % recordLength) 0 (records .0); few = ltb-false mostRecords (recordCount r) (records .1) };
       order = not-false (inOrder r) (none .1 .0);
       fits = ltb-false room (length r + trailerLength) (none .1 .1 .0);
+    }
+
+-- ---- the second call (N7)
+-- conditions after others: they count once none of the others is met
+pub none-before : (others cs : List Condition) → judged others ≡ Accepted → judged (others ++ cs) ≡ judged cs
+none-before [] cs e = refl
+none-before (c ∷ others) cs e = go (c .met) (none-before others cs) e
+  where
+    go : (t : Bool) → (judged others ≡ Accepted → judged (others ++ cs) ≡ judged cs) → cond t (RefusedBy (c .number)) (judged others) ≡ Accepted → cond t (RefusedBy (c .number)) (judged (others ++ cs)) ≡ judged cs
+    go true h e = let z : _≡_ {A = ℕ} 0 1 = cc in absurd (omega arith)
+    go false h e = h e
+
+pub one-before : (others cs : List Condition) {k : ℕ} → judged others ≡ RefusedBy k → judged (others ++ cs) ≡ RefusedBy k
+one-before [] cs e = let z : _≡_ {A = ℕ} 0 1 = cc in absurd (omega arith)
+one-before (c ∷ others) cs {k} e = go (c .met) (one-before others cs) e
+  where
+    go : (t : Bool) → (judged others ≡ RefusedBy k → judged (others ++ cs) ≡ RefusedBy k) → cond t (RefusedBy (c .number)) (judged others) ≡ RefusedBy k → cond t (RefusedBy (c .number)) (judged (others ++ cs)) ≡ RefusedBy k
+    go true h e = e
+    go false h e = h e
+
+pub record Given (s : List ℕ) (room : ℕ) : Type 0 where
+  pub read : readOutcome s ≡ Accepted
+  pub fits : length (flatten (survivors (part s))) ≤ room
+
+pub given : (s : List ℕ) (room : ℕ) → survivorsOutcome s room ≡ Accepted → Given s room
+unfolding survivorsOutcome survivorsConditions readOutcome readConditions
+given s room e =
+    let none = accepted-iff (survivorsConditions s room) .0 e in
+    record {
+      read = accepted-iff (readConditions s) .1 (none .0, (none .1 .0, (none .1 .1 .0, (none .1 .1 .1 .0, tt))));
+      fits = ltb-false room (length (flatten (survivors (part s)))) (none .1 .1 .1 .1 .0);
     }

@@ -1,13 +1,14 @@
 -- Document 01, the journal: preface, records and trailer; what a read and a write give, and under which numbers they are refused.
 -- Three types have a variant Refused: that of an outcome is RefusedBy here, that of a read Refused, that of a write NotWritten.
-use mathlib.Core.Bool.{Bool, true, not, cond, _&&_, _||_}
+use mathlib.Core.Bool.{Bool, not, cond, _&&_, _||_}
 use mathlib.Core.List.{List, [], _∷_, _++_}
 use mathlib.Core.Option.{Option, none, some}
-use Prim.Native.Nat.{ℕ, zero, suc, _+_, _*_, _-_, _/_, _%_}
+use Prim.Native.Nat.{ℕ, _+_, _*_, _-_, _/_, _%_}
 use lib.Dec.{eqb, ltb}
 use lib.ListN.{length, take, drop}
 pub use Rattle.tracker.specs.Promise.{Outcome, Accepted, Refused as RefusedBy, Condition, _when_, judged, numberOf, numberMet}
-unfoldable pub use Rattle.tracker.specs.Promise.{u32At}
+unfoldable pub use Rattle.tracker.specs.Promise.{u32At, each}
+use Rattle.tracker.specs.Promise.{byteAt}
 use Rattle.words.specs.Buffer.{littleOf, over}
 use Rattle.journal_rules.specs.declared.Found.{Found}
 use Rattle.journal_rules.specs.declared.Found.the-variants.{Journal, Refused}
@@ -31,12 +32,15 @@ trailerLength = 16
 abbrev pub longestJournal : ℕ
 longestJournal = 65536
 
--- Records end to end: how many, and the n of record i, which it starts with.
+-- Records end to end: how many, the n of record i, which it starts with, and its issue, byte 13 of it (N7).
 abbrev pub recordCount : List ℕ → ℕ
 recordCount r = length r / recordLength
 
 abbrev pub numberAt : List ℕ → ℕ → ℕ
 numberAt r i = u32At r (recordLength * i)
+
+abbrev pub issueAt : List ℕ → ℕ → ℕ
+issueAt r i = byteAt r (recordLength * i + 13)
 
 -- First n and last n; 0 if empty.
 unfoldable pub firstNumber : List ℕ → ℕ
@@ -45,17 +49,17 @@ firstNumber r = cond (eqb (recordCount r) 0) 0 (numberAt r 0)
 unfoldable pub lastNumber : List ℕ → ℕ
 lastNumber r = cond (eqb (recordCount r) 0) 0 (numberAt r (recordCount r - 1))
 
--- b is one more than a. They are whole numbers: 0 is not one more than 4,294,967,295.
-abbrev pub follows : ℕ → ℕ → Bool
-follows a b = eqb b (a + 1)
+-- After a record of number n and issue i comes one of number m and issue j: the same n and a higher issue, or the next n and any issue (N7). They
+-- are whole numbers: 0 is not the next n after 4,294,967,295.
+abbrev pub follows : ℕ → ℕ → ℕ → ℕ → Bool
+follows n i m j = eqb m n && ltb i j || eqb m (n + 1)
 
--- Of the records up to number k, each n but the first is one more than the last one's.
-unfoldable pub inOrderTo : List ℕ → ℕ → Bool
-inOrderTo r zero = true
-inOrderTo r (suc k) = inOrderTo r k && follows (numberAt r k) (numberAt r (suc k))
+abbrev pub followedAt : List ℕ → ℕ → Bool
+followedAt r k = follows (numberAt r k) (issueAt r k) (numberAt r (k + 1)) (issueAt r (k + 1))
 
-abbrev pub inOrder : List ℕ → Bool
-inOrder r = inOrderTo r (recordCount r - 1)
+-- Each record after the first follows the one before it.
+unfoldable pub inOrder : List ℕ → Bool
+inOrder r = each (recordCount r - 1) (followedAt r)
 
 -- A trailer of four u32 ends the journal; word k of it: count, distance back from the trailer's start to the first record, first n, last n.
 abbrev pub trailerWord : List ℕ → ℕ → ℕ
@@ -95,7 +99,7 @@ badTrailer s =
 unfoldable pub badNumbers : ℕ → ℕ → List ℕ → Bool
 badNumbers first last r = not (eqb first (firstNumber r)) || not (eqb last (lastNumber r))
 
--- 14 a record's n not one more than the last one's.
+-- 14 a record that does not follow the one before it (N7).
 unfoldable pub readConditions : List ℕ → List Condition
 readConditions s =
     11 when badLength s

@@ -1,5 +1,6 @@
 -- The journal, in document 01's words.
 pub mod Journal
+pub mod Survivors
 pub mod Internal
 pub mod RoundTrip
 pub mod Promise

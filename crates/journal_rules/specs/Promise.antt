@@ -1,13 +1,15 @@
--- What the calls of the journal promise for every input: what they return, in document 01's numbers and values, what the buffer that a write
--- is lent holds afterwards, and the round trips.
+-- What the calls of the journal promise for every input: what they return, in the documents' numbers and values, what the buffer that a write or
+-- the second call (N7) is lent holds afterwards, the round trips, and what survivors are.
 use mathlib.Core.List.{List, [], _∷_}
 use mathlib.Core.Option.{Option, none, some}
 use mathlib.Core.Path.{_≡_}
 use Prim.Native.Nat.{ℕ, _+_}
 use lib.ListN.{length}
 use Rattle.journal_rules.specs.declared.Found.{Found}
+use Rattle.journal_rules.specs.declared.Surviving.{Surviving}
 use Rattle.journal_rules.specs.declared.Written.{Written}
-use Rattle.journal_rules.specs.Journal.{trailerLength, numberMet, count, first, last, readConditions, readOf, foundNumber, foundValues, writeConditions, writtenOf, bufferOf, writtenNumber, writtenValues}
+use Rattle.journal_rules.specs.Journal.{trailerLength, numberMet, count, first, last, part, readConditions, readOf, recordsOf, foundNumber, foundValues, writeConditions, writtenOf, bufferOf, writtenNumber, writtenValues}
+use Rattle.journal_rules.specs.Survivors.{survivors, survivorsConditions, survivingOf, survivorsBuffer, survivingNumber, survivingValues, HighestOfEach}
 use Rattle.journal_rules.specs.RoundTrip.{ReadsBack, WritesBack}
 
 -- A refusal returns only its number: where there is one, there are no values.
@@ -31,3 +33,13 @@ pub record WritePromise (r d : List ℕ) (answer : Written) (left : List ℕ) : 
   pub number : writtenNumber answer ≡ numberMet (writeConditions r (length d))
   pub values : writtenValues answer ≡ unlessRefused (numberMet (writeConditions r (length d))) ((length r + trailerLength) ∷ [])
   pub reads-back : ReadsBack answer r left
+
+-- The second call (N7), of journal s and buffer d, returns what document 02 says, the number of the first condition met, or else how many records
+-- survive, and leaves in the buffer what document 02 says. The survivors of the journal's records are, for each n, the record of highest issue, in
+-- order of n.
+pub record SurvivorsPromise (s d : List ℕ) (answer : Surviving) (left : List ℕ) : Type 0 where
+  pub is : answer ≡ survivingOf s (length d)
+  pub buffer : left ≡ survivorsBuffer s d
+  pub number : survivingNumber answer ≡ numberMet (survivorsConditions s (length d))
+  pub values : survivingValues answer ≡ unlessRefused (numberMet (survivorsConditions s (length d))) (length (survivors (part s)) ∷ [])
+  pub highest : HighestOfEach (recordsOf s) (survivors (recordsOf s))

@@ -5,6 +5,12 @@ pub enum Found {
     Refused(u8),
 }
 
+// What the second call gives (N7): how many records survive, or a refusal's number.
+pub enum Surviving {
+    Records(u32),
+    Refused(u8),
+}
+
 // What a write gives: the number of bytes written, or a refusal's number.
 pub enum Written {
     Bytes(usize),

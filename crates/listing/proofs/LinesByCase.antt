@@ -4,14 +4,15 @@ use mathlib.Core.Path.{_≡_, refl, ap, sym, _∙_}
 use mathlib.Core.Bool.{Bool, true, false, cond}
 use mathlib.Core.List.{List, [], _∷_, _++_, map, flatten}
 use mathlib.Core.Option.{Option}
-use Prim.Native.Nat.{ℕ, suc, _+_, _-_, _/_, _≤_}
+use Prim.Native.Nat.{ℕ, _+_, _*_, _-_, _<_, _≤_}
 use native.Mathlib.Omega.{arith}
 use lib.ListN.{length, take, drop}
-use lib.Seq.{drop-drop}
-use borrow.Author.Tests.{eq-eqb, ne-eqb}
 use Rattle.journal_rules.specs.declared.Found.{Found}
 use Rattle.journal_rules.specs.declared.Found.the-variants.{Journal, Refused as NotRead}
-use Rattle.journal_rules.specs.Journal.{recordCount, readOf, recordsOf}
+use Rattle.journal_rules.specs.Journal.{recordCount, inOrder, readOf, recordsOf}
+use Rattle.journal_rules.specs.Survivors.{recordAt, survivors}
+use Rattle.journal_rules.specs.Internal.{issuedAgain}
+use Rattle.journal_rules.proofs.Survivors as S
 use Rattle.tracker.specs.Promise.{Row, Answer, Accepted, Refused, Opening, OpenPromise, CallAfter, numberOf, workedFrom}
 use Rattle.listing.specs.Line.{lineOf, listedOf}
 use Rattle.listing.specs.Internal.{rowText}
@@ -29,59 +30,67 @@ printed (r ∷ rows) = go (listedOf r) (printed rows)
     go true e = ap (λ (l : List ℕ). lineOf r ++ l) e
     go false e = e
 
--- the lines of the records from byte i on, after those that have passed
+-- the lines of the survivors from record i on, after the records that have passed
 abbrev pub rest : Opening → List ℕ → ℕ → List (List ℕ) → List (List ℕ)
-rest o r i passed = runLines o ((length r - i) / 168) passed (drop i r)
+rest o r i passed = runLines o passed (S.rest r i)
 
-pub rest-all : (o : Opening) (r : List ℕ) → runLines o (recordCount r) [] r ≡ rest o r 0 []
-rest-all o r = let e : length r - 0 ≡ length r = omega arith in rw e
+pub rest-all : (o : Opening) (r : List ℕ) → runLines o [] (survivors r) ≡ rest o r 0 []
+rest-all o r = ap (runLines o []) (S.rest-all r)
 
-pub rest-none : (o : Opening) (r : List ℕ) (i : ℕ) (passed : List (List ℕ)) → length r ≤ i → rest o r i passed ≡ []
+pub rest-none : (o : Opening) (r : List ℕ) (i : ℕ) (passed : List (List ℕ)) → recordCount r ≤ i → rest o r i passed ≡ []
 unfolding runLines
-rest-none o r i passed h = let e : (length r - i) / 168 ≡ 0 = omega arith in rw e
+rest-none o r i passed h = rw (S.rest-none r i h)
 
--- one record's turn: by the promise of its call, on the record b as the code takes it out
-module _ (o : Opening) (r : List ℕ) (i : ℕ) (passed : List (List ℕ)) (h : i + 168 ≤ length r) {b : List ℕ} {a : Answer} (is : b ≡ take (i + 168 - i) (drop i r)) (call : CallAfter o passed b a) where
-  abbrev upto : List (List ℕ)
-  upto = passed ++ (b ∷ [])
+-- one record's turn, where it is not issued again: by the promise of its call, on the record b as the code takes it out
+module _ (o : Opening) (r : List ℕ) (order : inOrder r ≡ true) (i : ℕ) (h : i < recordCount r) (passed : List (List ℕ)) where
+  -- one that is issued again gives no line
+  pub pass-over : issuedAgain r i ≡ true → rest o r i passed ≡ rest o r (i + 1) passed
+  pass-over e = ap (runLines o passed) (S.again r order i h e)
 
-  turn : {m : Option ℕ} → numberOf (a .outcome) ≡ m → rest o r i passed ≡ callLines m (eightRows (workedFrom o upto)) (rest o r (i + 168) upto)
-  unfolding runLines
-  turn e =
-      let n : (length r - i) / 168 ≡ suc ((length r - (i + 168)) / 168) = omega arith in
-      let k : i + 168 - i ≡ 168 = omega arith in
-      let taken : take 168 (drop i r) ≡ b = sym (is ∙ ap (λ (k : ℕ). take k (drop i r)) k) in
-      rw (n, taken, drop-drop 168 i r, sym (call .number) ∙ e) refl
+  module _ (survives : issuedAgain r i ≡ false) {b : List ℕ} {a : Answer} (is : b ≡ take (168 * i + 168 - 168 * i) (drop (168 * i) r)) (call : CallAfter o passed b a) where
+    abbrev upto : List (List ℕ)
+    upto = passed ++ (b ∷ [])
 
-  pub go-on : a .outcome ≡ Accepted → rest o r i passed ≡ eightRows (workedFrom o upto) ++ rest o r (i + 168) upto
-  go-on e = turn (ap numberOf e)
+    turn : {m : Option ℕ} → numberOf (a .outcome) ≡ m → rest o r i passed ≡ callLines m (eightRows (workedFrom o upto)) (rest o r (i + 1) upto)
+    unfolding runLines
+    turn e =
+        let k : 168 * i + 168 - 168 * i ≡ 168 = omega arith in
+        let taken : recordAt r i ≡ b = sym (is ∙ ap (λ (k : ℕ). take k (drop (168 * i) r)) k) in
+        rw (S.not-again r order i h survives, taken, sym (call .number) ∙ e) refl
 
-  pub go-off : (k : ℕ) → a .outcome ≡ Refused k → rest o r i passed ≡ endedBy k
-  go-off k e = turn (ap numberOf e)
+    pub go-on : a .outcome ≡ Accepted → rest o r i passed ≡ eightRows (workedFrom o upto) ++ rest o r (i + 1) upto
+    go-on e = turn (ap numberOf e)
+
+    pub go-off : (k : ℕ) → a .outcome ≡ Refused k → rest o r i passed ≡ endedBy k
+    go-off k e = turn (ap numberOf e)
 
 -- what the records give, by the opening's outcome
-module _ (first : ℕ) (r : List ℕ) {a : Answer} (p : OpenPromise (openedAt first) a) where
-  by-number : {m : Option ℕ} → numberOf (a .outcome) ≡ m → openedLines first r ≡ callLines m [] (runLines (openedAt first) (recordCount r) [] r)
+module _ (first : ℕ) (bs : List (List ℕ)) {a : Answer} (p : OpenPromise (openedAt first) a) where
+  by-number : {m : Option ℕ} → numberOf (a .outcome) ≡ m → openedLines first bs ≡ callLines m [] (runLines (openedAt first) [] bs)
   unfolding openedLines
   by-number e = rw (sym (p .number) ∙ e)
 
-  pub opened : a .outcome ≡ Accepted → openedLines first r ≡ runLines (openedAt first) (recordCount r) [] r
+  pub opened : a .outcome ≡ Accepted → openedLines first bs ≡ runLines (openedAt first) [] bs
   opened e = by-number (ap numberOf e)
 
-  pub unopened : (k : ℕ) → a .outcome ≡ Refused k → openedLines first r ≡ endedBy k
+  pub unopened : (k : ℕ) → a .outcome ≡ Refused k → openedLines first bs ≡ endedBy k
   unopened k e = by-number (ap numberOf e)
 
-pub no-records : (first : ℕ) (r : List ℕ) → length r ≡ 0 → recordLines first r ≡ []
+pub no-records : (first : ℕ) (r : List ℕ) → length r < 168 → recordLines first (survivors r) ≡ []
 unfolding recordLines
-no-records first r l = rw (eq-eqb _ _ l)
+no-records first r l = let none : recordCount r ≤ 0 = omega arith in rw (S.rest-all r, S.rest-none r 0 none)
 
-pub some-records : (first : ℕ) (r : List ℕ) → (length r ≡ 0 → ⊥) → recordLines first r ≡ openedLines first r
+pub some-records : (first : ℕ) (r : List ℕ) → inOrder r ≡ true → 168 ≤ length r → recordLines first (survivors r) ≡ openedLines first (survivors r)
 unfolding recordLines
-some-records first r l = rw (ne-eqb _ _ l)
+some-records first r order l = go (survivors r) (S.some-survive r order (omega arith))
+  where
+    go : (bs : List (List ℕ)) → 0 < length bs → recordLines first bs ≡ openedLines first bs
+    go [] h = absurd (omega arith)
+    go (b ∷ bs) h = refl
 
 -- what follows the header, by what a read finds
 module _ (s : List ℕ) (f : Found) (is : f ≡ readOf s) where
-  pub found : {count first last : ℕ} → f ≡ Journal count first last → bodyLines s ≡ recordLines first (recordsOf s)
+  pub found : {count first last : ℕ} → f ≡ Journal count first last → bodyLines s ≡ recordLines first (survivors (recordsOf s))
   unfolding bodyLines
   found e = rw (← is, e)
 

@@ -4,17 +4,17 @@ use mathlib.Core.Path.{_≡_, refl}
 use mathlib.Core.Bool.{Bool, true, false, cond}
 use mathlib.Core.List.{List, [], _∷_, _++_, map, flatten}
 use mathlib.Core.Option.{Option, none, some}
-use Prim.Native.Nat.{ℕ, zero, suc, _+_, _*_, _<_, _≤_}
+use Prim.Native.Nat.{ℕ, suc, _+_, _*_, _<_, _≤_}
 use native.Mathlib.Omega.{arith}
-use lib.Dec.{eqb}
-use lib.ListN.{length, getD, take, drop, replicate, length-append}
+use lib.ListN.{length, getD, replicate, length-append}
 use Rattle.words.proofs.Parts.{flatten-append}
 use Rattle.text.proofs.Decimal.{short-count}
 use Rattle.journal_rules.specs.declared.Found.{Found}
 use Rattle.journal_rules.specs.declared.Found.the-variants.{Journal, Refused as NotRead}
 use Rattle.journal_rules.specs.Journal.{readOf, recordsOf}
-use Rattle.journal_rules.specs.Journal as J
+use Rattle.journal_rules.specs.Survivors.{survivors}
 use Rattle.journal_rules.proofs.Accept.{records-whole}
+use Rattle.journal_rules.proofs.Survivors.{no-more}
 use Rattle.tracker.specs.Promise.{Row, RowBounds, noRow, document01, Opening, numberMet, intervalConditions, awaitedFrom, ofDirections, workedFrom}
 use Rattle.listing.specs.Line.{newline, lineOf, listedOf}
 use Rattle.listing.specs.Internal.{rowText}
@@ -59,37 +59,32 @@ call-short (some k) small own following h l n fits room = let e = ended-short k 
 eight-short : (o : Opening) (calls : List (List ℕ)) → length (flatten (eightRows (workedFrom o calls))) ≤ 8 * longestLine
 eight-short o calls = rw (printed (ofDirections (workedFrom o calls))) (rows-short (ofDirections (workedFrom o calls)) (worked-eight o calls refl .bounded))
 
-run-short : (o : Opening) (k : ℕ) (passed : List (List ℕ)) (r : List ℕ) → length (flatten (runLines o k passed r)) ≤ 8 * longestLine * k
+run-short : (o : Opening) (passed bs : List (List ℕ)) → length (flatten (runLines o passed bs)) ≤ 8 * longestLine * length bs
 unfolding runLines flatten
-run-short o zero passed r = omega arith
-run-short o (suc k) passed r =
-    let b = take 168 r in
+run-short o passed [] = omega arith
+run-short o passed (b ∷ bs) =
     let upto = passed ++ (b ∷ []) in
     let awaited = awaitedFrom o passed in
-    call-short (numberMet (intervalConditions awaited b)) (interval-number awaited b) _ _ (eight-short o _) (run-short o k upto (drop 168 r)) (8 * longestLine * suc k) (omega arith) (omega arith)
+    call-short (numberMet (intervalConditions awaited b)) (interval-number awaited b) _ _ (eight-short o _) (run-short o upto bs) (8 * longestLine * suc (length bs)) (omega arith) (omega arith)
 
-opened-short : (first : ℕ) (r : List ℕ) → J.recordCount r ≤ 288 → length (flatten (openedLines first r)) ≤ most
+opened-short : (first : ℕ) (bs : List (List ℕ)) → length bs ≤ 288 → length (flatten (openedLines first bs)) ≤ most
 unfolding openedLines flatten
-opened-short first r few =
+opened-short first bs few =
     let o = openedAt first in
-    call-short (openingNumber o) (open-number first (replicate 6 500) document01) [] (runLines o (J.recordCount r) [] r) {a = 0} (omega arith) (run-short o (J.recordCount r) [] r) most (omega arith) (omega arith)
+    call-short (openingNumber o) (open-number first (replicate 6 500) document01) [] (runLines o [] bs) {a = 0} (omega arith) (run-short o [] bs) most (omega arith) (omega arith)
 
-or-none : (t : Bool) (lines : List (List ℕ)) (n : ℕ) → length (flatten lines) ≤ n → length (flatten (cond t [] lines)) ≤ n
-unfolding flatten
-or-none true lines n h = omega arith
-or-none false lines n h = h
+records-short : (first : ℕ) (bs : List (List ℕ)) → length bs ≤ 288 → length (flatten (recordLines first bs)) ≤ most
+unfolding recordLines flatten
+records-short first [] few = omega arith
+records-short first (b ∷ bs) few = opened-short first (b ∷ bs) few
 
-records-short : (first : ℕ) (r : List ℕ) → J.recordCount r ≤ 288 → length (flatten (recordLines first r)) ≤ most
-unfolding recordLines
-records-short first r few = or-none (eqb (length r) 0) (openedLines first r) most (opened-short first r few)
-
-read-short : (f : Found) → ((k : ℕ) → f ≡ NotRead k → k ≤ 99) → (r : List ℕ) → J.recordCount r ≤ 288 → length (flatten (readLines f r)) ≤ most
-read-short (Journal count first last) small r few = records-short first r few
-read-short (NotRead k) small r few = let b = ended-short k (small k refl) in omega arith
+read-short : (f : Found) → ((k : ℕ) → f ≡ NotRead k → k ≤ 99) → (bs : List (List ℕ)) → length bs ≤ 288 → length (flatten (readLines f bs)) ≤ most
+read-short (Journal count first last) small bs few = records-short first bs few
+read-short (NotRead k) small bs few = let b = ended-short k (small k refl) in omega arith
 
 pub body-short : (s : List ℕ) → length (flatten (bodyLines s)) ≤ most
 unfolding bodyLines
-body-short s = read-short (readOf s) (read-number s) (recordsOf s) (records-whole s .few)
+body-short s = read-short (readOf s) (read-number s) (survivors (recordsOf s)) (omega (arith, no-more (recordsOf s), records-whole s .few))
 
 input-short : (s : List ℕ) (more : Bool) → length (flatten (inputLines s more)) ≤ most
 unfolding inputLines

@@ -1,18 +1,18 @@
--- Document 01, `clampday`: the listing of its input, line by line, from the opening and the records alone. Nothing here reads a tracker.
+-- Document 01, `clampday`: the listing of its input, line by line, from the opening and the surviving records (N7) alone. Nothing here reads a
+-- tracker.
 -- A read's variant Refused is NotRead here.
 use mathlib.Core.Bool.{Bool, cond}
 use mathlib.Core.List.{List, [], _∷_, _++_, map, flatten}
 use mathlib.Core.Option.{Option, none, some}
-use Prim.Native.Nat.{ℕ, zero, suc, _+_, _*_}
-use lib.Dec.{eqb}
-use lib.ListN.{length, take, drop, replicate}
+use Prim.Native.Nat.{ℕ, _+_, _*_}
+use lib.ListN.{replicate}
 use Rattle.text.specs.Ascii.{ascii}
 use Rattle.text.specs.Text.{numberCell}
 use Rattle.tracker.specs.Promise.{Row, Opening, opening, numberMet, openConditions, intervalConditions, awaitedFrom, ofDirections, workedFrom}
 use Rattle.journal_rules.specs.declared.Found.{Found}
 use Rattle.journal_rules.specs.declared.Found.the-variants.{Journal, Refused as NotRead}
-use Rattle.journal_rules.specs.Journal.{recordLength, readOf, recordsOf}
-use Rattle.journal_rules.specs.Journal as J
+use Rattle.journal_rules.specs.Journal.{mostRecords, readOf, recordsOf}
+use Rattle.journal_rules.specs.Survivors.{survivors}
 use Rattle.listing.specs.Line.{newline, lineOf, listedOf}
 
 -- The header always comes first.
@@ -39,14 +39,13 @@ ifListed r = cond (listedOf r) (lineOf r ∷ []) []
 abbrev pub eightRows : (ℕ → Row) → List (List ℕ)
 eightRows rows = flatten (map ifListed (ofDirections rows))
 
--- The next k records of r, after those that have passed: for each the printed ones of the eight rows worked out from the opening and the
--- records up to it. The first refused one, at the number which those before it await, ends the listing with its number.
-unfoldable pub runLines : Opening → ℕ → List (List ℕ) → List ℕ → List (List ℕ)
-runLines o zero passed r = []
-runLines o (suc k) passed r =
-    let b = take recordLength r in
+-- Records in their turn, after those that have passed: for each the printed ones of the eight rows worked out from the opening and the records
+-- up to it. The first refused one, at the number which those before it await, ends the listing with its number.
+unfoldable pub runLines : Opening → List (List ℕ) → List (List ℕ) → List (List ℕ)
+runLines o passed [] = []
+runLines o passed (b ∷ bs) =
     let upto = passed ++ (b ∷ []) in
-    callLines (numberMet (intervalConditions (awaitedFrom o passed) b)) (eightRows (workedFrom o upto)) (runLines o k upto (drop recordLength r))
+    callLines (numberMet (intervalConditions (awaitedFrom o passed) b)) (eightRows (workedFrom o upto)) (runLines o upto bs)
 
 -- It opens at the journal's first n with all shares 500, and gives no settings (N2).
 abbrev pub openedAt : ℕ → Opening
@@ -56,22 +55,23 @@ abbrev pub openingNumber : Opening → Option ℕ
 openingNumber o = numberMet (openConditions (o .first) (o .shares) (o .settings))
 
 -- After the opening: what the records give, or its number.
-unfoldable pub openedLines : ℕ → List ℕ → List (List ℕ)
-openedLines first r =
+unfoldable pub openedLines : ℕ → List (List ℕ) → List (List ℕ)
+openedLines first bs =
     let o = openedAt first in
-    callLines (openingNumber o) [] (runLines o (J.recordCount r) [] r)
+    callLines (openingNumber o) [] (runLines o [] bs)
 
 -- An empty journal prints the header alone: it is not opened.
-unfoldable pub recordLines : ℕ → List ℕ → List (List ℕ)
-recordLines first r = cond (eqb (length r) 0) [] (openedLines first r)
+unfoldable pub recordLines : ℕ → List (List ℕ) → List (List ℕ)
+recordLines first [] = []
+recordLines first (b ∷ bs) = openedLines first (b ∷ bs)
 
--- After the read: what the records give, or its number.
-abbrev pub readLines : Found → List ℕ → List (List ℕ)
-readLines (Journal count first last) r = recordLines first r
-readLines (NotRead k) r = endedBy k
+-- After the read: what the records give, or its number. They are, for each n, the record of highest issue: a superseded one is not run (N7).
+abbrev pub readLines : Found → List (List ℕ) → List (List ℕ)
+readLines (Journal count first last) bs = recordLines first bs
+readLines (NotRead k) bs = endedBy k
 
 unfoldable pub bodyLines : List ℕ → List (List ℕ)
-bodyLines journal = readLines (readOf journal) (recordsOf journal)
+bodyLines journal = readLines (readOf journal) (survivors (recordsOf journal))
 
 -- `input` is what the program's buffer holds, `more` whether input goes on beyond it: that is 11, whatever the buffer holds.
 unfoldable pub inputLines : List ℕ → Bool → List (List ℕ)
@@ -89,4 +89,4 @@ abbrev pub longestLine : ℕ
 longestLine = 95
 
 abbrev pub longestListing : ℕ
-longestListing = 62 + J.mostRecords * (8 * longestLine)
+longestListing = 62 + mostRecords * (8 * longestLine)

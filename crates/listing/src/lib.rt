@@ -6,15 +6,17 @@ use rules::Outcome;
 use rules::RECORD;
 use rules::Row;
 use rules::Tracker;
+ghost use mathlib.Core.Bool.{true};
 ghost use mathlib.Core.List.{List, map, flatten};
 ghost use mathlib.Core.Path.{_≡_};
-ghost use Prim.Native.Nat.{ℕ, _+_, _%_, _<_, _≤_};
+ghost use Prim.Native.Nat.{ℕ, _+_, _<_, _≤_};
 ghost use lib.ListN.{length};
 ghost use Rattle.io.specs.Counts.{Counts};
 ghost use Rattle.words.specs.Buffer.{over, Room, RoomBefore, Puts};
 ghost use Rattle.text.specs.Text.{numberCell};
 ghost use Rattle.tracker.specs.Promise.{Came, Opening, RowBounds, run, ofDirections, workedFrom};
-ghost use Rattle.journal_rules.specs.Journal.{recordLength};
+ghost use Rattle.journal_rules.specs.Journal.{inOrder};
+ghost use Rattle.journal_rules.specs.Survivors.{survivors};
 ghost use Rattle.listing.specs.Line.{comma, mark, nameOf, amountsOf, lineOf, listedOf};
 ghost use Rattle.listing.specs.Internal.{keptNames, rowText, EightBounded};
 ghost use Rattle.listing.specs.Listing.{endedBy, openedLines, recordLines, bodyLines, inputLines, listingOf, longestListing};
@@ -177,10 +179,11 @@ fn refused(number: u8, out: &mut [u8], at: usize) -> usize
     words::put_bytes(&digits[from..], out, a)
 }
 
-// The lines of records end to end, each put in its turn to a tracker that is opened at the first n; those of the records before a refusal stay.
+// The lines of the survivors among records end to end, each put in its turn to a tracker that is opened at the first n; those of the records
+// before a refusal stay. A record that is issued again is passed over, whatever it holds.
 fn run(first: u32, records: &[u8], out: &mut [u8], at: usize) -> usize
-    requires { ⌜ (length (now records) % recordLength ≡ 0) × Room (flatten (openedLines first (now records))) at (now out) ⌝ }
-    ensures { λ r. ⌜ Puts (flatten (openedLines first (now (records .entry)))) at (now (out .entry)) r (now (out .exit)) ⌝ }
+    requires { ⌜ (inOrder (now records) ≡ true) × Room (flatten (openedLines first (survivors (now records)))) at (now out) ⌝ }
+    ensures { λ r. ⌜ Puts (flatten (openedLines first (survivors (now (records .entry))))) at (now (out .entry)) r (now (out .exit)) ⌝ }
 {
     let opened = tracker::open(first, [500; 6]);
     let opening = opened.outcome;
@@ -189,27 +192,28 @@ fn run(first: u32, records: &[u8], out: &mut [u8], at: usize) -> usize
     }
     let mut t = opened.tracker;
     let mut e = at;
-    let mut i: usize = 0;
-    while i < records.len() {
-        let f = i + RECORD;
-        let a = tracker::interval(t, &records[i..f]);
+    for i in 0..records.len() / RECORD {
+        if journal::issued_again(records, i) {
+            continue;
+        }
+        let from = RECORD * i;
+        let a = tracker::interval(t, &records[from..from + RECORD]);
         let outcome = a.outcome;
         if let Outcome::Refused(number) = outcome {
             return refused(number, out, e);
         }
         t = a.tracker;
         e = rows(eight_rows(t), out, e);
-        i = f;
     }
     e
 }
 
 // What the records of a journal give that starts at the first n.
 fn opened(first: u32, records: &[u8], out: &mut [u8], at: usize) -> usize
-    requires { ⌜ (length (now records) % recordLength ≡ 0) × Room (flatten (recordLines first (now records))) at (now out) ⌝ }
-    ensures { λ r. ⌜ Puts (flatten (recordLines first (now (records .entry)))) at (now (out .entry)) r (now (out .exit)) ⌝ }
+    requires { ⌜ (inOrder (now records) ≡ true) × Room (flatten (recordLines first (survivors (now records)))) at (now out) ⌝ }
+    ensures { λ r. ⌜ Puts (flatten (recordLines first (survivors (now (records .entry))))) at (now (out .entry)) r (now (out .exit)) ⌝ }
 {
-    if records.len() == 0 {
+    if records.len() < RECORD {
         return at;
     }
     run(first, records, out, at)

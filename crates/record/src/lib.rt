@@ -211,13 +211,11 @@ fn pre_dispatch_misplaced(s: &[u8]) -> bool
     }
 }
 
+// Byte 13, the issue (N7), is not looked at.
 fn zero_bytes(s: &[u8]) -> bool
     requires { ⌜ Whole (now s) ⌝ }
     ensures { λ r. ⌜ r ≡ zeroBytes (now (s .entry)) ⌝ }
 {
-    if s[13] != 0 {
-        return false;
-    }
     if s[14] != 0 {
         return false;
     }

@@ -1,5 +1,6 @@
 // Rows and numbers printed to standard output, the files that arguments name, and settings in bytes: for the programs that the gate runs.
 use journal_rules::Found;
+use journal_rules::Surviving;
 use libc::STDOUT_FILENO;
 use rules::Answer;
 use rules::DirectionSettings;
@@ -156,8 +157,23 @@ fn run(t: Tracker, records: &[u8])
     }
 }
 
-// What an opening answered, and the records after it: all rows, or its refusal.
-pub fn print_opened(opened: Answer, records: &[u8])
+// As long as the most records of a journal are.
+const MOST_BYTES: usize = 48384;
+
+// The rows of the surviving records of a journal (N7), which the second call gives.
+fn run_survivors(t: Tracker, journal: &[u8])
+    requires { ⌜ Came t ⌝ }
+{
+    let mut records = [0u8; MOST_BYTES];
+    let given = journal::survivors(journal, &mut records);
+    match given {
+        Surviving::Records(count) => run(t, &records[..RECORD * count as usize]),
+        Surviving::Refused(number) => print_refusal(number),
+    }
+}
+
+// What an opening answered, and the surviving records of a journal after it: all rows, or a refusal.
+pub fn print_opened(opened: Answer, journal: &[u8])
     requires { ⌜ Came (opened .tracker) ⌝ }
 {
     let outcome = opened.outcome;
@@ -165,7 +181,7 @@ pub fn print_opened(opened: Answer, records: &[u8])
         print_refusal(number);
         return;
     }
-    run(opened.tracker, records);
+    run_survivors(opened.tracker, journal);
 }
 
 // The header of all rows, and what a read finds in a journal: a refusal is printed.

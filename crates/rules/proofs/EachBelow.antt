@@ -61,6 +61,12 @@ module _ (f : ℕ → Bool) where
   pub each-up-to : {i n : ℕ} → each i f ≡ true → i ≡ n → each n f ≡ true
   each-up-to e h = subst (λ (m : ℕ). each m f ≡ true) h e
 
+-- Tests that agree on each number below n.
+pub each-same : (n : ℕ) (f g : ℕ → Bool) → ((i : ℕ) → i < n → f i ≡ g i) → each n f ≡ each n g
+unfolding each
+each-same zero f g h = refl
+each-same (suc n) f g h = rw (each-same n f g (λ i l. h i (omega arith)), h n (omega arith))
+
 -- Two tests of each number are two rounds of one test.
 pub each-both : (f g : ℕ → Bool) (n : ℕ) → each n (λ i. f i && g i) ≡ (each n f && each n g)
 unfolding each

@@ -18,6 +18,7 @@ pub mod OneDirection
 pub mod Replay
 pub mod Fresh
 pub mod Refusals
+pub mod UnreadIssue
 pub mod SettingsRefused
 pub mod Demand
 pub mod Came

@@ -90,8 +90,8 @@ pub pre-dispatch-at-five : map (λ n. intervalOutcome n (withFaults ((0, n) ∷ 
 unfolding u32At i32At each badFlags badStatus badPrice badFlow preDispatchZero preDispatchInside badPreDispatch intervalConditions intervalOutcome
 pre-dispatch-at-five = refl
 
--- Number 4, each zero byte not 0.
-pub zero-bytes : map (λ i. intervalOutcome 0 (withFaults ((i, 1) ∷ (5, 3) ∷ []))) (13 ∷ 14 ∷ 15 ∷ []) ≡ replicate 3 (Refused 4)
+-- Number 4, each zero byte not 0. Byte 13 is none of them (N7).
+pub zero-bytes : map (λ i. intervalOutcome 0 (withFaults ((i, 1) ∷ (5, 3) ∷ []))) (13 ∷ 14 ∷ 15 ∷ []) ≡ Refused 5 ∷ replicate 2 (Refused 4)
 unfolding u32At each badFlags badStatus intervalConditions intervalOutcome
 zero-bytes = refl
 

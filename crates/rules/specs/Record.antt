@@ -60,9 +60,13 @@ status b d = statusByte b d % 4
 abbrev pub blocked : List ℕ → ℕ → Bool
 blocked b d = bit 2 (statusByte b d)
 
--- 3 zero bytes;
+-- Byte 13 is the issue, 0 to 255 (N7);
+abbrev pub issue : List ℕ → ℕ
+issue b = byteAt b 13
+
+-- bytes 14 and 15 are zero (N7);
 abbrev pub zeroBytes : List ℕ → Bool
-zeroBytes b = eqb (byteAt b 13) 0 && (eqb (byteAt b 14) 0 && eqb (byteAt b 15) 0)
+zeroBytes b = eqb (byteAt b 14) 0 && eqb (byteAt b 15) 0
 
 -- 4 prices; 6 × (metered, target, losses);
 abbrev pub price : List ℕ → ℕ → Cents

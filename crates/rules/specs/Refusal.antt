@@ -54,7 +54,7 @@ each (suc n) f = each n f && f n
 abbrev pub highestNumber : ℕ
 highestNumber = 1051199
 
--- 4 flag bits 3-7 set, bit 2 with q not 5, or a zero byte not 0;
+-- 4 flag bits 3-7 set, bit 2 with q not 5, or a zero byte, 14 or 15 (N7), not 0;
 unfoldable pub badFlags : List ℕ → Bool
 badFlags b = not (eqb (flags b / 8) 0) || (present b && not (eqb (place (recordNumber b)) 5) || not (zeroBytes b))
 

@@ -25,7 +25,7 @@ fn print_rows_of(settings: &[u8], bytes: &[u8])
         return;
     }
     let opened = tracker::open_with_settings(first, [500; 6], report::settings_in(settings));
-    report::print_opened(opened, journal::records(bytes));
+    report::print_opened(opened, bytes);
 }
 
 // A case, by the arguments that name its two files.

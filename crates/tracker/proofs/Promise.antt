@@ -29,7 +29,8 @@ use Rattle.rules.proofs.StateBounds.{row-bounds}
 use Rattle.rules.proofs.CentsAndGrains.{none-left}
 use Rattle.rules.proofs.Leftover.{rows-together}
 pub use Rattle.signed.proofs.Calc.{inside}
-pub use Rattle.rules.proofs.EachBelow.{both-false}
+pub use Rattle.rules.proofs.EachBelow.{both-true, both-false, below-or-last, each-at, each-by, each-fails, each-none, each-one-more, each-up-to}
+pub use Rattle.rules.proofs.UnreadIssue.{underIssue, issue-unread}
 pub use Rattle.rules.proofs.Directions.{at-direction}
 pub use Rattle.rules.proofs.AcceptedSettings.{none-given}
 pub use Rattle.rules.proofs.Accepted.{accepted-iff, number-met}

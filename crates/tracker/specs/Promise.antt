@@ -24,10 +24,11 @@ pub use Rattle.rules.specs.declared.Outcome.{Outcome}
 pub use Rattle.rules.specs.declared.Outcome.the-variants.{Accepted, Refused}
 pub use Rattle.rules.specs.declared.Answer.{Answer}
 pub use Rattle.rules.specs.declared.RowAnswer.{RowAnswer}
--- the number of a record and how bytes make it, and how conditions in their order make an outcome
+-- the number of a record and how bytes make it, its issue (N7), and how conditions in their order make an outcome
 unfoldable pub use Rattle.rules.specs.Record.{u32At}
-pub use Rattle.rules.specs.Record.{recordNumber}
+pub use Rattle.rules.specs.Record.{byteAt, recordNumber, issue}
 pub use Rattle.rules.specs.Refusal.{numberOf, isAccepted, Condition, _when_, judged, numberMet}
+unfoldable pub use Rattle.rules.specs.Refusal.{each}
 unfoldable pub use Rattle.rules.specs.Refusal.{openConditions, intervalConditions, rowConditions}
 -- the calls, a list of them from an opening, and that a tracker came from such a list
 pub use Rattle.rules.specs.Tracker.{Opening, openingWith, opening, firstOf, sharesOf, settingsOf, accepts, openOf, intervalOf, rowOf, noRow, rowAnswer, after}

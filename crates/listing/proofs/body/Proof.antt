@@ -3,8 +3,9 @@
 use mathlib.Core.Path.{_≡_, sym, ap, _∙_}
 use Rattle.journal_rules.specs.declared.Found.{Found}
 use Rattle.journal_rules.specs.Journal.{recordsOf}
+use Rattle.journal_rules.specs.Survivors.{survivors}
 use Rattle.journal_rules.specs.Internal.{countedRecords}
-use Rattle.journal_rules.proofs.Accept.{records-whole, counted-records}
+use Rattle.journal_rules.proofs.Accept.{records-ordered, counted-records}
 use Rattle.listing.specs.Listing.{endedBy, recordLines, bodyLines}
 use Rattle.listing.proofs.LinesByCase.{found, unread}
 use borrow.Author.Needs.{needs}
@@ -14,7 +15,7 @@ use Rattle.listing.proofs.body.Tie as tie
 -- the lines in each case
 goes : (c : tie.After-found)
     → let k = c .before .before in let s = k .before .before .before .args .journal .now in
-    bodyLines s ≡ recordLines (c .found .given .0 .1 .0) (recordsOf s)
+    bodyLines s ≡ recordLines (c .found .given .0 .1 .0) (survivors (recordsOf s))
 goes c = let k = c .before .before in found (k .before .before .before .args .journal .now) (k .read .result) (k .read .ensures .is) (c .found .given .1)
 
 ends : (c : tie.After-found2)
@@ -35,7 +36,7 @@ opened-requires : tie.Need-opened-requires
 opened-requires c κs =
     let k = c .before .before .before in
     let s = k .before .before .before .before .before in
-    rw (are-records (c .before)) (records-whole (s .args .journal .now) .whole, rw (goes k) at (s .pre))
+    rw (are-records (c .before)) (records-ordered (s .args .journal .now), rw (goes k) at (s .pre))
 
 refused-requires : tie.Need-refused-requires
 refused-requires c κs = let k = c .before .before in rw (ends k) at (k .before .before .before .before .before .pre)

@@ -16,13 +16,13 @@ returns c =
 run-requires : tie.Need-run-requires
 run-requires c κs =
     let s = c .before .before .before .before in
-    (s .pre .0, rw (some-records (s .args .first) (s .args .records .now) (c .before .if1 .left)) at (s .pre .1))
+    (s .pre .0, rw (some-records (s .args .first) (s .args .records .now) (s .pre .0) (c .before .if1 .left)) at (s .pre .1))
 
 returns-2 : tie.Need-returns-2
 returns-2 c =
     let k = c .before .before .before .before in
-    let a = k .before .before .before .args in
-    rw (some-records (a .first) (a .records .now) (k .if1 .left)) (c .before .before .run .ensures)
+    let s = k .before .before .before in
+    rw (some-records (s .args .first) (s .args .records .now) (s .pre .0) (k .if1 .left)) (c .before .before .run .ensures)
 
 pub opened-spec : {M : Type 1} → statement M
 opened-spec = tie.close (tie.spec returns run-requires (λ c. search needs) returns-2)

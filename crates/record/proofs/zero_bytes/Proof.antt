@@ -9,18 +9,7 @@ returns : tie.Need-returns
 returns c = rw (ne-eqb _ 0 (c .if1 .taken))
 
 returns-2 : tie.Need-returns-2
-returns-2 c = rw (eq-eqb _ 0 (c .before .before .if1 .left), ne-eqb _ 0 (c .if2 .taken))
-
-returns-3 : tie.Need-returns-3
-returns-3 c = rw (eq-eqb _ 0 (c .before .before .before .if1 .left), eq-eqb _ 0 (c .before .if2 .left))
+returns-2 c = rw (eq-eqb _ 0 (c .before .if1 .left))
 
 pub zero-bytes-spec : {M : Type 1} → statement M
-zero-bytes-spec =
-    tie.close
-    (tie.spec
-    (λ c. search needs)
-    returns
-    (λ c. search needs)
-    returns-2
-    (λ c. search needs)
-    returns-3)
+zero-bytes-spec = tie.close (tie.spec (λ c. search needs) returns (λ c. search needs) returns-2)
