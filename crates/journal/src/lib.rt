@@ -74,12 +74,12 @@ fn last_number(records: &[u8]) -> u32
     number_at(records, count - 1)
 }
 
-// Whether a record of number m and issue j may stand after one of number n and issue i (N7). In u64, where one more than the highest n is no n.
-fn follows(n: u32, i: u8, m: u32, j: u8) -> bool
-    ensures { λ r. ⌜ r ≡ follows n i m j ⌝ }
+// Whether a record of number m and issue y may stand after one of number n and issue x (N7). In u64, where one more than the highest n is no n.
+fn follows(n: u32, x: u8, m: u32, y: u8) -> bool
+    ensures { λ r. ⌜ r ≡ follows n x m y ⌝ }
 {
     if m == n {
-        return i < j;
+        return x < y;
     }
     m as u64 == n as u64 + 1
 }

@@ -16,35 +16,35 @@ use Rattle.journal_rules.specs.Internal.{issuedAgain}
 
 -- ---- what `follows` says
 -- 0 is not the next n after the highest, under any issue.
-pub highest : (i j : ℕ) → follows 4294967295 i 0 j ≡ false
-highest i j = refl
+pub highest : (x y : ℕ) → follows 4294967295 x 0 y ≡ false
+highest x y = refl
 
 or-false : (t : Bool) → (t || false) ≡ t
 or-false true = refl
 or-false false = refl
 
-module _ (n i m j : ℕ) where
+module _ (n x m y : ℕ) where
   -- Of the same n, a higher issue,
-  pub of-same : m ≡ n → follows n i m j ≡ ltb i j
-  of-same q = let z : eqb m (n + 1) ≡ false = ne-eqb m (n + 1) (λ e. omega arith) in rw (eq-eqb m n q, z) (or-false (ltb i j))
+  pub of-same : m ≡ n → follows n x m y ≡ ltb x y
+  of-same q = let z : eqb m (n + 1) ≡ false = ne-eqb m (n + 1) (λ e. omega arith) in rw (eq-eqb m n q, z) (or-false (ltb x y))
 
   -- or the next n and any issue.
-  pub of-other : (m ≡ n → ⊥) → follows n i m j ≡ eqb m (n + 1)
+  pub of-other : (m ≡ n → ⊥) → follows n x m y ≡ eqb m (n + 1)
   of-other q = rw (ne-eqb m n q)
 
 -- An equal or lower issue of the same n does not follow; the next n follows under any issue.
-pub issue-not-higher : (n i j : ℕ) → j ≤ i → follows n i n j ≡ false
-issue-not-higher n i j h = of-same n i n j refl ∙ le-ltb i j h
+pub issue-not-higher : (n x y : ℕ) → y ≤ x → follows n x n y ≡ false
+issue-not-higher n x y h = of-same n x n y refl ∙ le-ltb x y h
 
-pub any-issue : (n i j : ℕ) → follows n i (n + 1) j ≡ true
-any-issue n i j = of-other n i (n + 1) j (λ e. omega arith) ∙ eq-eqb (n + 1) (n + 1) refl
+pub any-issue : (n x y : ℕ) → follows n x (n + 1) y ≡ true
+any-issue n x y = of-other n x (n + 1) y (λ e. omega arith) ∙ eq-eqb (n + 1) (n + 1) refl
 
-module _ (n i m j : ℕ) (f : follows n i m j ≡ true) where
-  higher : m ≡ n → i < j
-  higher q = ltb-true i j (sym (of-same n i m j q) ∙ f)
+module _ (n x m y : ℕ) (f : follows n x m y ≡ true) where
+  higher : m ≡ n → x < y
+  higher q = ltb-true x y (sym (of-same n x m y q) ∙ f)
 
   one-more : (m ≡ n → ⊥) → m ≡ n + 1
-  one-more q = eqb-true m (n + 1) (sym (of-other n i m j q) ∙ f)
+  one-more q = eqb-true m (n + 1) (sym (of-other n x m y q) ∙ f)
 
   rises : n ≤ m
   rises = go (eqb m n) refl

@@ -1,5 +1,5 @@
 -- Document 01, the journal: preface, records and trailer; what a read and a write give, and under which numbers they are refused.
--- Three types have a variant Refused: that of an outcome is RefusedBy here, that of a read Refused, that of a write NotWritten.
+-- Three types here have a variant Refused: that of an outcome is RefusedBy, that of a read Refused, that of a write NotWritten.
 use mathlib.Core.Bool.{Bool, not, cond, _&&_, _||_}
 use mathlib.Core.List.{List, [], _∷_, _++_}
 use mathlib.Core.Option.{Option, none, some}
@@ -15,8 +15,8 @@ use Rattle.journal_rules.specs.declared.Found.the-variants.{Journal, Ref
 use Rattle.journal_rules.specs.declared.Written.{Written}
 use Rattle.journal_rules.specs.declared.Written.the-variants.{Bytes, Refused as NotWritten}
 
--- A record is 168 bytes. A journal is a preface of 0 to 1,024 free bytes, at most 288 records, and a trailer of 16 bytes; a read takes up to
--- 65,536 bytes.
+-- A record is 168 bytes. A journal is a preface of 0 to 1,024 free bytes, at most 288 records, superseded ones included (N7), and a trailer of 16
+-- bytes; a read takes up to 65,536 bytes.
 abbrev pub recordLength : ℕ
 recordLength = 168
 
@@ -49,10 +49,10 @@ firstNumber r = cond (eqb (recordCount r) 0) 0 (numberAt r 0)
 unfoldable pub lastNumber : List ℕ → ℕ
 lastNumber r = cond (eqb (recordCount r) 0) 0 (numberAt r (recordCount r - 1))
 
--- After a record of number n and issue i comes one of number m and issue j: the same n and a higher issue, or the next n and any issue (N7). They
--- are whole numbers: 0 is not the next n after 4,294,967,295.
+-- After a record of number n and issue x comes one of number m and issue y: the same n and a higher issue, or the next n and any issue (N7). Numbers
+-- are whole: 0 is not the next n after 4,294,967,295.
 abbrev pub follows : ℕ → ℕ → ℕ → ℕ → Bool
-follows n i m j = eqb m n && ltb i j || eqb m (n + 1)
+follows n x m y = eqb m n && ltb x y || eqb m (n + 1)
 
 abbrev pub followedAt : List ℕ → ℕ → Bool
 followedAt r k = follows (numberAt r k) (issueAt r k) (numberAt r (k + 1)) (issueAt r (k + 1))
@@ -111,7 +111,7 @@ readConditions s =
 unfoldable pub readOutcome : List ℕ → Outcome
 readOutcome s = judged (readConditions s)
 
--- A read gives count, first n, last n; a refusal returns only its number.
+-- A read gives count, first n, last n, still of all records (N7); a refusal returns only its number.
 abbrev pub foundBy : Outcome → List ℕ → Found
 foundBy Accepted s = Journal (count s) (first s) (last s)
 foundBy (RefusedBy k) s = Refused k

@@ -1,4 +1,4 @@
--- The journal, in document 01's words.
+-- The journal, in the words of document 01 and of N7.
 pub mod Journal
 pub mod Survivors
 pub mod Internal

@@ -35,8 +35,8 @@ pub record WritePromise (r d : List ℕ) (answer : Written) (left : List ℕ) : 
   pub reads-back : ReadsBack answer r left
 
 -- The second call (N7), of journal s and buffer d, returns what document 02 says, the number of the first condition met, or else how many records
--- survive, and leaves in the buffer what document 02 says. The survivors of the journal's records are, for each n, the record of highest issue, in
--- order of n.
+-- survive, and leaves in the buffer what document 02 says. What it gives and writes are, for each n, the record of highest issue, in order of n
+-- (recordsOf s is part s wherever a read accepts s, also where the buffer is too short).
 pub record SurvivorsPromise (s d : List ℕ) (answer : Surviving) (left : List ℕ) : Type 0 where
   pub is : answer ≡ survivingOf s (length d)
   pub buffer : left ≡ survivorsBuffer s d

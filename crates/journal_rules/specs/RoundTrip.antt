@@ -1,4 +1,4 @@
--- The two round trips: what is written is read back, and what is read is written back.
+-- The two round trips: what is written is read back, and what is read is written back, records of all issues (N7).
 use mathlib.Core.Path.{_≡_}
 use mathlib.Core.List.{List}
 use Prim.Native.Nat.{ℕ, _+_, _≤_}

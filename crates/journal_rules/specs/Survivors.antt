@@ -21,14 +21,14 @@ recordAt r i = take recordLength (drop (recordLength * i) r)
 abbrev pub supersedes : List ℕ → ℕ → ℕ → Bool
 supersedes r j i = eqb (numberAt r j) (numberAt r i) && ltb (issueAt r i) (issueAt r j)
 
--- Record i survives: of the records of its n it is that of highest issue, since none supersedes it.
+-- Record i survives: none of its n has a higher issue. In records that are in order just one of each n does (HighestOfEach).
 unfoldable pub survives : List ℕ → ℕ → Bool
 survives r i = each (recordCount r) (λ j. not (supersedes r j i))
 
 -- The survivors, as they stand in the journal: among so many records from record i on, and among all.
 unfoldable pub survivorsFrom : List ℕ → ℕ → ℕ → List (List ℕ)
 survivorsFrom r i zero = []
-survivorsFrom r i (suc left) = cond (survives r i) (recordAt r i ∷ []) [] ++ survivorsFrom r (suc i) left
+survivorsFrom r i (suc more) = cond (survives r i) (recordAt r i ∷ []) [] ++ survivorsFrom r (suc i) more
 
 unfoldable pub survivors : List ℕ → List (List ℕ)
 survivors r = survivorsFrom r 0 (recordCount r)
@@ -65,7 +65,7 @@ survivorsBufferBy (RefusedBy k) s d = d
 unfoldable pub survivorsBuffer : List ℕ → List ℕ → List ℕ
 survivorsBuffer s d = survivorsBufferBy (survivorsOutcome s (length d)) s d
 
--- ---- what survivors are, said of them alone
+-- ---- what the survivors of records in order are, said without `survives`
 -- Record b is one of the records r.
 pub record Among (r b : List ℕ) : Type 0 where
   pub place : ℕ
@@ -86,5 +86,5 @@ pub record HighestOfEach (r : List ℕ) (w : List (List ℕ)) : Type 0 where
   pub among : (k : ℕ) → k < length w → Among r (getD w k [])
   -- and no record of its n has a higher issue;
   pub highest : (k : ℕ) → k < length w → (i : ℕ) → i < recordCount r → numberAt r i ≡ recordNumber (getD w k []) → issueAt r i ≤ issue (getD w k [])
-  -- they stand in order of n, from the first n on, without a gap.
+  -- they stand in order of n, from the first n on, without a gap: so there is one for each n, and no more.
   pub in-turn : (k : ℕ) → k < length w → recordNumber (getD w k []) ≡ firstNumber r + k

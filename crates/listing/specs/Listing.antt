@@ -65,7 +65,8 @@ unfoldable pub recordLines : ℕ → List (List ℕ) → List (List ℕ)
 recordLines first [] = []
 recordLines first (b ∷ bs) = openedLines first (b ∷ bs)
 
--- After the read: what the records give, or its number. They are, for each n, the record of highest issue: a superseded one is not run (N7).
+-- After the read: what the records give, or its number. They are the surviving ones, for each n that of highest issue: sums and periods for a
+-- journal are theirs, and a superseded record is not run (N7).
 abbrev pub readLines : Found → List (List ℕ) → List (List ℕ)
 readLines (Journal count first last) bs = recordLines first bs
 readLines (NotRead k) bs = endedBy k

@@ -19,6 +19,7 @@ pub mod Replay
 pub mod Fresh
 pub mod Refusals
 pub mod UnreadIssue
+pub mod TakenNumbers
 pub mod SettingsRefused
 pub mod Demand
 pub mod Came

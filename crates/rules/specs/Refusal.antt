@@ -89,7 +89,7 @@ preDispatchInside b = each 4 (λ region. priceOk (preDispatchPrice b region)) &&
 unfoldable pub badPreDispatch : List ℕ → Bool
 badPreDispatch b = not (cond (present b) (preDispatchInside b) (preDispatchZero b))
 
--- Interval: 1 length not 168; 2 n above 1,051,199; 3 n not the awaited number; 4 to 8 as above.
+-- Interval: 1 length not 168; 2 n above 1,051,199; 3 n not the awaited number, so an n already taken too, under any issue (N7); 4 to 8 as above.
 unfoldable pub intervalConditions : ℕ → List ℕ → List Condition
 intervalConditions awaited b =
     1 when not (eqb (length b) 168)

@@ -31,6 +31,7 @@ use Rattle.rules.proofs.Leftover.{rows-together}
 pub use Rattle.signed.proofs.Calc.{inside}
 pub use Rattle.rules.proofs.EachBelow.{both-true, both-false, below-or-last, each-at, each-by, each-fails, each-none, each-one-more, each-up-to}
 pub use Rattle.rules.proofs.UnreadIssue.{underIssue, issue-unread}
+pub use Rattle.rules.proofs.TakenNumbers.{already-taken}
 pub use Rattle.rules.proofs.Directions.{at-direction}
 pub use Rattle.rules.proofs.AcceptedSettings.{none-given}
 pub use Rattle.rules.proofs.Accepted.{accepted-iff, number-met}

@@ -24,7 +24,7 @@ pub use Rattle.rules.specs.declared.Outcome.{Outcome}
 pub use Rattle.rules.specs.declared.Outcome.the-variants.{Accepted, Refused}
 pub use Rattle.rules.specs.declared.Answer.{Answer}
 pub use Rattle.rules.specs.declared.RowAnswer.{RowAnswer}
--- the number of a record and how bytes make it, its issue (N7), and how conditions in their order make an outcome
+-- the number of a record and how bytes make it, its issue (N7), how conditions in their order make an outcome, and a test of each number below n
 unfoldable pub use Rattle.rules.specs.Record.{u32At}
 pub use Rattle.rules.specs.Record.{byteAt, recordNumber, issue}
 pub use Rattle.rules.specs.Refusal.{numberOf, isAccepted, Condition, _when_, judged, numberMet}
