@@ -10,7 +10,7 @@ use native.Mathlib.Omega.{arith}
 use borrow.Author.Tests.{ltb-true, ltb-false, eqb-true, eqb-false, lt-ltb, le-ltb, eq-eqb, ne-eqb, not-false}
 use lib.Dec.{eqb, ltb}
 use Rattle.tracker.proofs.Promise.{both-true, below-or-last, each-at, each-by, each-fails}
-use Rattle.journal_rules.specs.Journal.{each, recordCount, numberAt, issueAt, follows, followedAt, inOrder}
+use Rattle.journal_rules.specs.Journal.{recordCount, numberAt, issueAt, follows, followedAt, inOrder}
 use Rattle.journal_rules.specs.Survivors.{supersedes, survives}
 use Rattle.journal_rules.specs.Internal.{issuedAgain}
 
@@ -83,6 +83,28 @@ module _ (r : List ℕ) (order : inOrder r ≡ true) where
   ahead (suc i) h j l =
       below-or-last {P = λ (j : ℕ). Ahead r j (suc i)} (suc i)
       (λ j l. rw (← add-one i) (one-on r j i (step i (omega arith)) (ahead i (omega arith) j l))) (itself r (suc i)) j l
+
+  -- n and issue tell a record
+  later : (j i : ℕ) → j < i → i < recordCount r → numberAt r j ≡ numberAt r i → issueAt r j < issueAt r i
+  later j i l h q =
+      let k : j + 1 < recordCount r = omega arith in
+      let low = ahead i h (j + 1) (omega arith) in
+      let up = rises (numberAt r j) (issueAt r j) (numberAt r (j + 1)) (issueAt r (j + 1)) (step j k) in
+      let same : numberAt r (j + 1) ≡ numberAt r j = omega (arith, low .number) in
+      omega (arith, higher (numberAt r j) (issueAt r j) (numberAt r (j + 1)) (issueAt r (j + 1)) (step j k) same, low .issue (omega arith))
+
+  pub one-place : (j i : ℕ)
+      → j < recordCount r
+      → i < recordCount r
+      → numberAt r j ≡ numberAt r i
+      → issueAt r j ≡ issueAt r i
+      → j ≡ i
+  one-place j i hj hi q e = go (ltb j i) (ltb i j) refl refl
+    where
+      go : (less more : Bool) → ltb j i ≡ less → ltb i j ≡ more → j ≡ i
+      go true more p q' = absurd (omega (arith, later j i (ltb-true j i p) hi q))
+      go false true p q' = absurd (omega (arith, later i j (ltb-true i j q') hj (sym q)))
+      go false false p q' = omega (arith, ltb-false j i p, ltb-false i j q')
 
   -- n never falls
   pub no-lower : (j i : ℕ) → j ≤ i → i < recordCount r → numberAt r j ≤ numberAt r i

@@ -10,14 +10,14 @@ use native.Mathlib.Numerals.{add-one}
 use native.Mathlib.Omega.{arith}
 use borrow.Author.Tests.{ltb-true, ltb-false, eq-eqb, ne-eqb, not-true}
 use lib.Dec.{eqb, ltb}
-use lib.ListN.{length, take, drop, getD, length-append, length-drop}
-use lib.Seq.{getD-take, getD-drop, length-take-le}
+use lib.ListN.{length, drop, getD, length-append, length-drop}
+use lib.Seq.{getD-take, getD-drop, ext-getD, length-take-le}
 use Rattle.tracker.specs.Promise.{byteAt, recordNumber, issue}
 use Rattle.tracker.proofs.Promise.{each-at}
 use Rattle.journal_rules.specs.Journal.{u32At, recordLength, recordCount, numberAt, issueAt, firstNumber, inOrder}
-use Rattle.journal_rules.specs.Survivors.{recordAt, supersedes, survives, survivorsFrom, survivors, Among, HasNumber, HighestOfEach}
+use Rattle.journal_rules.specs.Survivors.{recordAt, supersedes, survives, survivorsFrom, survivors, HighestOfEach}
 use Rattle.journal_rules.specs.Internal.{issuedAgain}
-use Rattle.journal_rules.proofs.Order.{no-lower, next-tells, next-number, same-number}
+use Rattle.journal_rules.proofs.Order.{one-place, no-lower, next-tells, next-number, same-number}
 
 -- ---- a record taken out
 pub record-length : (r : List ℕ) (i : ℕ) → i < recordCount r → length (recordAt r i) ≡ recordLength
@@ -184,6 +184,43 @@ module _ (r : List ℕ) (order : inOrder r ≡ true) where
         omega (arith, highest-issue r (c .place) (c .lives) i h (q ∙ number), ap issue (sym (c .is)) ∙ issue-of r (c .place));
     in-turn = λ k l. in-turn .number k l ∙ ap (λ (n : ℕ). n + k) (sym (first-is (omega (arith, no-more r))));
   }
+
+-- ---- and nothing else is
+all-below : (m n : ℕ) → ((k : ℕ) → k < m → k < n) → m ≤ n
+all-below zero n h = omega arith
+all-below (suc m) n h = let l = h m (omega arith) in omega arith
+
+module _ (r : List ℕ) (order : inOrder r ≡ true) where
+  -- what one of two such lists has, the other has
+  no-longer : {v w : List (List ℕ)} → HighestOfEach r v → HighestOfEach r w → (k : ℕ) → k < length v → k < length w
+  no-longer {v} {w} a b k l =
+      let m = a .among k l in
+      let n = b .each-number (m .place) (m .inside) in
+      let same : firstNumber r + k ≡ firstNumber r + n .place =
+      sym (a .in-turn k l) ∙ ap recordNumber (sym (m .is)) ∙ number-of r (m .place) ∙ sym (n .is) ∙ b .in-turn (n .place) (n .inside) in
+      omega (arith, n .inside)
+
+  same-record : {v w : List (List ℕ)} → HighestOfEach r v → HighestOfEach r w → (k : ℕ) → k < length v → getD v k [] ≡ getD w k []
+  same-record {v} {w} a b k l =
+      let h = no-longer a b k l in
+      let p = a .among k l in
+      let q = b .among k h in
+      let n : numberAt r (p .place) ≡ recordNumber (getD v k []) = sym (number-of r (p .place)) ∙ ap recordNumber (p .is) in
+      let m : numberAt r (q .place) ≡ recordNumber (getD w k []) = sym (number-of r (q .place)) ∙ ap recordNumber (q .is) in
+      let same : recordNumber (getD v k []) ≡ recordNumber (getD w k []) = a .in-turn k l ∙ sym (b .in-turn k h) in
+      let x : issueAt r (p .place) ≡ issue (getD v k []) = sym (issue-of r (p .place)) ∙ ap issue (p .is) in
+      let y : issueAt r (q .place) ≡ issue (getD w k []) = sym (issue-of r (q .place)) ∙ ap issue (q .is) in
+      let up = a .highest k l (q .place) (q .inside) (m ∙ sym same) in
+      let down = b .highest k h (p .place) (p .inside) (n ∙ same) in
+      let place = one-place r order (p .place) (q .place) (p .inside) (q .inside) (n ∙ same ∙ sym m) (omega arith) in
+      sym (p .is) ∙ ap (recordAt r) place ∙ q .is
+
+  pub only-survivors : (w : List (List ℕ)) → HighestOfEach r w → w ≡ survivors r
+  only-survivors w a =
+      let b = highest-of-each r order in
+      let short = all-below (length w) (length (survivors r)) (no-longer a b) in
+      let long = all-below (length (survivors r)) (length w) (no-longer b a) in
+      ext-getD [] w (survivors r) (omega arith) (same-record a b)
 
 -- ---- for a loop over records in order that leaves out those issued again
 module _ (r : List ℕ) (order : inOrder r ≡ true) (i : ℕ) (h : i < recordCount r) where

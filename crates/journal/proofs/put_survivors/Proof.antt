@@ -8,7 +8,7 @@ use native.Mathlib.Omega.{arith}
 use lib.ListN.{length, take, drop}
 use borrow.Author.Needs.{needs}
 use Rattle.words.proofs.Parts.{Left, begin, room, next, finish, at-start}
-use Rattle.journal_rules.specs.Survivors.{recordAt, survivors}
+use Rattle.journal_rules.specs.Survivors.{survivors}
 use Rattle.journal_rules.proofs.Survivors.{rest, rest-all, rest-none, again, not-again}
 use Rattle.journal.proofs.put_survivors.Statement.{statement}
 use Rattle.journal.proofs.put_survivors.Tie as tie

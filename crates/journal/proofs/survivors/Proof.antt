@@ -1,7 +1,6 @@
 -- `journal::survivors` meets its contract: what the outcome's case gives, and so the promise.
 -- Assumes nothing.
 use mathlib.Core.Path.{_≡_, ap, sym, _∙_}
-use mathlib.Core.List.{flatten}
 use Prim.Native.Nat.{_/_}
 use native.Mathlib.Omega.{arith}
 use lib.ListN.{length}
