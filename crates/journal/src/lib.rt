@@ -236,8 +236,8 @@ pub fn records(journal: &[u8]) -> &[u8]
     counted_records(journal, read(journal))
 }
 
-// Is record i issued again: has the next one the same n? In records that are in order just the superseded ones are, so that nobody need look at
-// the others. For `listing`, which has read the journal; it asks for nothing.
+// Is record i issued again: has the next one the same n? In records that are in order just the superseded ones are, so that the next record
+// tells, and no other need be looked at. For `listing`, which has read the journal; it asks for nothing.
 pub fn issued_again(records: &[u8], i: usize) -> bool
     ensures { λ r. ⌜ r ≡ issuedAgain (now (records .entry)) i ⌝ }
 {
