@@ -1,22 +1,8 @@
-// Runs journals through the library: for each file named as an argument its name, its listing, and all eight rows after each interval.
-// The gate compares what is printed with stored listings and rows.
+// Runs journals through the library: for each file named as an argument its name, its listing, all eight rows after each interval as the control
+// reader shows them, and then all of them as the trader's does (N6). A refusal ends each of the three.
+// The gate compares what is printed with stored listings, rows and views.
 use journal::LONGEST_JOURNAL;
-use journal_rules::Found;
-
-// All eight rows after each interval of a journal, opened as clampday opens it.
-fn print_rows_of(bytes: &[u8]) {
-    let found = report::print_found(bytes);
-    if let Found::Journal {
-        count,
-        first,
-        last: _,
-    } = found {
-        if count != 0 {
-            let opened = tracker::open(first, [500; 6]);
-            report::print_opened(opened, bytes);
-        }
-    }
-}
+use report::Reader;
 
 // The listing, with buffers as clampday has them.
 fn print_listing(i: usize) {
@@ -27,11 +13,13 @@ fn print_listing(i: usize) {
     libc::close(file);
 }
 
-// All eight rows after each interval. A byte more than clampday's buffer is read, so that what is too long is seen to be.
+// All eight rows after each interval, by both readers. A byte more than clampday's buffer is read, so that what is too long is seen to be.
 fn print_all_rows(i: usize) {
     let mut input = [0u8; LONGEST_JOURNAL + 1];
     let n = report::read_argument(i, &mut input);
-    print_rows_of(&input[..n]);
+    report::print_header();
+    report::print_journal(&input[..n], Reader::Control);
+    report::print_journal(&input[..n], Reader::Trader);
 }
 
 // The journal that argument i names.

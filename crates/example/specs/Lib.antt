@@ -1,2 +1,2 @@
--- What a caller may say of its own list of calls.
+-- What a caller may say of its own list of calls, and of its own two rows (N6).
 pub mod Own

@@ -1,13 +1,27 @@
-// Callers of the tracker, as another crate would write them. What they say of their own lists of calls, demand 3 and N8's law, they have from
-// what the calls promise, and from nothing else.
+// Callers of the tracker and of the two readers, as another crate would write them. What they say of their own lists of calls, demand 3 and N8's
+// law, and of the views that they were given (N6), they have from what the calls promise, and from nothing else.
+use readers::ControlView;
+use readers::TraderView;
 use rules::Row;
 use rules::Settings;
-ghost use Rattle.example.specs.Own.{Own, Tried, Complete};
+ghost use Rattle.example.specs.Own.{Own, Tried, Complete, Read, Told};
 
 // The rows of VIC1_NSW1 and NSW1_VIC1.
 pub struct BothWays {
     pub forward: Row,
     pub back: Row,
+}
+
+// What both readers show of a row.
+pub struct Views {
+    pub trader: TraderView,
+    pub control: ControlView,
+}
+
+// What both readers show of two rows.
+pub struct TwoViews {
+    pub one: Views,
+    pub other: Views,
 }
 
 // The row of VIC1_NSW1 after two records, of any length and content.
@@ -44,5 +58,29 @@ pub fn both_ways(first: u32, shares: [u16; 6], bytes: &[u8]) -> BothWays
     BothWays {
         forward: forward,
         back: back,
+    }
+}
+
+// A row, by both readers.
+fn both_views(row: Row) -> Views
+    ensures { λ r. ⌜ Read row r ⌝ }
+{
+    let trader = readers::trader(row);
+    let control = readers::control(row);
+    Views {
+        trader: trader,
+        control: control,
+    }
+}
+
+// Two rows of any kind, of one tracker or of two, by both readers.
+pub fn compared(one: Row, other: Row) -> TwoViews
+    ensures { λ r. ⌜ Told one other r ⌝ }
+{
+    let of_one = both_views(one);
+    let of_other = both_views(other);
+    TwoViews {
+        one: of_one,
+        other: of_other,
     }
 }

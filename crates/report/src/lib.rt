@@ -1,7 +1,10 @@
-// Rows and numbers printed to standard output, the files that arguments name, and settings in bytes: for the programs that the gate runs.
+// Prints what the readers show of rows (N6), and numbers; reads the files that arguments name, and settings from bytes: for the programs that the
+// gate runs.
 use journal_rules::Found;
 use journal_rules::Surviving;
 use libc::STDOUT_FILENO;
+use readers::ControlView;
+use readers::TraderView;
 use rules::Answer;
 use rules::DirectionSettings;
 use rules::Outcome;
@@ -19,6 +22,13 @@ ghost use lib.IntN.{natAbs};
 ghost use lib.ListN.{length};
 ghost use Rattle.io.specs.Counts.{Counts};
 ghost use Rattle.tracker.specs.Promise.{Came, RowBounds, WithinHalfCent, highestSum};
+ghost use Rattle.readers.specs.Views.{rowShown};
+
+// Whose view of a row is printed (N6).
+pub enum Reader {
+    Trader,
+    Control,
+}
 
 // A number and the byte that ends it.
 pub fn print_number(n: u64, end: u8) {
@@ -35,11 +45,11 @@ fn print_bool(flag: bool) {
     }
 }
 
-fn print_cents(z: Cents)
+fn print_cents(z: Cents, end: u8)
     requires { ⌜ natAbs (z .0) ≤ highestSum ⌝ }
 {
     let mut out = [0u8; 32];
-    let from = text::cents(z, b',', &mut out, 32);
+    let from = text::cents(z, end, &mut out, 32);
     io::write_all(STDOUT_FILENO, &out[from..]);
 }
 
@@ -79,44 +89,90 @@ fn print_period(p: Period) {
     }
 }
 
-// The fields of a row after its period, to the line's end: the leftover is the last.
-fn print_after_period(r: Row)
-    requires { ⌜ RowBounds r ⌝ }
+// The fields of a control view after its period, to the line's end: the leftover is the last.
+fn print_after_period(view: ControlView)
+    requires { ⌜ RowBounds (rowShown view) ⌝ }
 {
-    let counts = r.counts;
-    let clamp = r.clamp;
-    let leftover = r.leftover;
+    let counts = view.counts;
+    let clamp = view.clamp;
+    let leftover = view.leftover;
     print_number(counts.unbound as u64, b',');
     print_number(counts.violated as u64, b',');
-    print_bool(r.blocked);
-    print_bool(r.flag);
+    print_bool(view.blocked);
+    print_bool(view.flag);
     print_hundredths(clamp);
-    print_number(r.notice as u64, b',');
+    print_number(view.notice as u64, b',');
     print_grains(leftover);
 }
 
-// Every field of a row, in one line.
+// Every field of a control view, in one line.
+fn print_control(view: ControlView)
+    requires { ⌜ RowBounds (rowShown view) ⌝ }
+{
+    let residue = view.residue;
+    let previous = view.previous;
+    let current = view.current;
+    let amount = view.amount;
+    let next = view.next;
+    let net = view.net;
+    let period = view.period;
+    print_number(view.n as u64, b',');
+    print_number(view.direction as u64, b',');
+    print_cents(residue, b',');
+    print_bool(view.applies);
+    print_cents(previous, b',');
+    print_cents(current, b',');
+    print_cents(amount, b',');
+    print_cents(next, b',');
+    print_cents(net, b',');
+    print_period(period);
+    print_after_period(view);
+}
+
+// A row in one line, as the control reader shows it: every field.
 pub fn print_row(r: Row)
     requires { ⌜ RowBounds r ⌝ }
 {
-    let residue = r.residue;
-    let previous = r.previous;
-    let current = r.current;
-    let amount = r.amount;
-    let next = r.next;
-    let net = r.net;
-    let period = r.period;
-    print_number(r.n as u64, b',');
-    print_number(r.direction as u64, b',');
-    print_cents(residue);
-    print_bool(r.applies);
-    print_cents(previous);
-    print_cents(current);
-    print_cents(amount);
-    print_cents(next);
-    print_cents(net);
-    print_period(period);
-    print_after_period(r);
+    print_control(readers::control(r));
+}
+
+// A row in one line, as the trader's reader shows it: `none`, or the seven fields.
+fn print_for_trader(r: Row)
+    requires { ⌜ RowBounds r ⌝ }
+{
+    let view = readers::trader(r);
+    match view {
+        TraderView::None => {
+            io::write_all(STDOUT_FILENO, b"none\n");
+        }
+        TraderView::Shown {
+            n,
+            direction,
+            applies,
+            amount,
+            previous,
+            current,
+            next,
+        } => {
+            print_number(n as u64, b',');
+            print_number(direction as u64, b',');
+            print_bool(applies);
+            print_cents(amount, b',');
+            print_cents(previous, b',');
+            print_cents(current, b',');
+            print_cents(next, b'\n');
+        }
+    }
+}
+
+// A row in one line, as a reader shows it.
+fn print_seen(r: Row, reader: Reader)
+    requires { ⌜ RowBounds r ⌝ }
+{
+    match reader {
+        Reader::Trader => print_for_trader(r),
+        Reader::Control => print_row(r),
+    }
 }
 
 pub fn print_refusal(number: u8) {
@@ -125,17 +181,17 @@ pub fn print_refusal(number: u8) {
 }
 
 // The eight rows of a tracker.
-fn print_rows(t: Tracker)
+fn print_rows(t: Tracker, reader: Reader)
     requires { ⌜ Came t ⌝ }
 {
     for d in 0..8 {
         let a = tracker::row(t, d);
-        print_row(a.row);
+        print_seen(a.row, reader);
     }
 }
 
 // The rows after each record in its turn, up to a refusal.
-fn run(t: Tracker, records: &[u8])
+fn run(t: Tracker, records: &[u8], reader: Reader)
     requires { ⌜ Came t ⌝ }
 {
     let mut now = t;
@@ -152,7 +208,7 @@ fn run(t: Tracker, records: &[u8])
             Outcome::Accepted => {}
         }
         now = a.tracker;
-        print_rows(now);
+        print_rows(now, reader);
         at = end;
     }
 }
@@ -161,19 +217,19 @@ fn run(t: Tracker, records: &[u8])
 const MOST_BYTES: usize = 48384;
 
 // The rows of the surviving records of a journal (N7), which the second call gives.
-fn run_survivors(t: Tracker, journal: &[u8])
+fn run_survivors(t: Tracker, journal: &[u8], reader: Reader)
     requires { ⌜ Came t ⌝ }
 {
     let mut records = [0u8; MOST_BYTES];
     let given = journal::survivors(journal, &mut records);
     match given {
-        Surviving::Records(count) => run(t, &records[..RECORD * count as usize]),
+        Surviving::Records(count) => run(t, &records[..RECORD * count as usize], reader),
         Surviving::Refused(number) => print_refusal(number),
     }
 }
 
-// What an opening answered, and the surviving records of a journal after it: all rows, or a refusal.
-pub fn print_opened(opened: Answer, journal: &[u8])
+// What an opening answered, and the surviving records of a journal after it: all rows, as a reader shows them, or a refusal.
+pub fn print_opened(opened: Answer, journal: &[u8], reader: Reader)
     requires { ⌜ Came (opened .tracker) ⌝ }
 {
     let outcome = opened.outcome;
@@ -181,11 +237,11 @@ pub fn print_opened(opened: Answer, journal: &[u8])
         print_refusal(number);
         return;
     }
-    run_survivors(opened.tracker, journal);
+    run_survivors(opened.tracker, journal, reader);
 }
 
-// The header of all rows, and what a read finds in a journal: a refusal is printed.
-pub fn print_found(bytes: &[u8]) -> Found {
+// The header of rows as the control reader shows them.
+pub fn print_header() {
     io::write_all(
         STDOUT_FILENO,
         b"n,direction,r,applies,previous,current,amount,next,net,held,first,last,extended,",
@@ -194,11 +250,30 @@ pub fn print_found(bytes: &[u8]) -> Found {
         STDOUT_FILENO,
         b"unbound,violated,blocked,flag,clamp,notice,leftover\n",
     );
+}
+
+// What a read finds in a journal: a refusal is printed.
+pub fn print_found(bytes: &[u8]) -> Found {
     let found = journal::read(bytes);
     if let Found::Refused(number) = found {
         print_refusal(number);
     }
     found
+}
+
+// All eight rows after each interval of a journal, opened as clampday opens it, as a reader shows them.
+pub fn print_journal(bytes: &[u8], reader: Reader) {
+    let found = print_found(bytes);
+    if let Found::Journal {
+        count,
+        first,
+        last: _,
+    } = found {
+        if count != 0 {
+            let opened = tracker::open(first, [500; 6]);
+            print_opened(opened, bytes, reader);
+        }
+    }
 }
 
 // Number k of bytes that hold i32.

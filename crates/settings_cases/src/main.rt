@@ -2,6 +2,7 @@
 // is printed with stored rows. The arguments are two files a case: its settings, and its journal.
 use journal::LONGEST_JOURNAL;
 use journal_rules::Found;
+use report::Reader;
 ghost use mathlib.Core.Path.{_≡_};
 ghost use lib.ListN.{length};
 
@@ -12,6 +13,7 @@ const SETTINGS: usize = 176;
 fn print_rows_of(settings: &[u8], bytes: &[u8])
     requires { ⌜ length (now settings) ≡ 176 ⌝ }
 {
+    report::print_header();
     let found = report::print_found(bytes);
     let Found::Journal {
         count,
@@ -25,7 +27,7 @@ fn print_rows_of(settings: &[u8], bytes: &[u8])
         return;
     }
     let opened = tracker::open_with_settings(first, [500; 6], report::settings_in(settings));
-    report::print_opened(opened, bytes);
+    report::print_opened(opened, bytes, Reader::Control);
 }
 
 // A case, by the arguments that name its two files.

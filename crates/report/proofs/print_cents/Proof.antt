@@ -7,7 +7,7 @@ use Rattle.report.proofs.print_cents.Statement.{statement}
 use Rattle.report.proofs.print_cents.Tie as tie
 
 cents-requires : tie.Need-cents-requires
-cents-requires c κs = let s = c .before in (omega (arith, s .pre), (omega (arith, short-cell 16 (s .args .z .0) 44 (omega (arith, s .pre))), search needs))
+cents-requires c κs = let s = c .before in (omega (arith, s .pre), (omega (arith, short-cell 16 (s .args .z .0) (s .args .end) (omega (arith, s .pre))), search needs))
 
 pub print-cents-spec : {M : Type 1} → statement M
 print-cents-spec =

@@ -9,10 +9,10 @@ use Rattle.report.proofs.run.Statement.{statement}
 use Rattle.report.proofs.run.Tie as tie
 
 abbrev Inv-loop : tie.InvT-loop
-Inv-loop records now₀ at₀ now at = (at ≤ length records) × Came now
+Inv-loop records reader now₀ at₀ now at = (at ≤ length records) × Came now
 
 abbrev μ-loop : tie.MeasureT-loop
-μ-loop records now₀ at₀ now at = length records - at
+μ-loop records reader now₀ at₀ now at = length records - at
 
 loop-holds : tie.Need-loop-holds Inv-loop μ-loop
 loop-holds c = (search needs, c .before .pre)
