@@ -1,5 +1,8 @@
 // Runs scripts of calls through the library, each on one tracker: for each script its name, and a line for each call with its answer. The
 // gate compares what is printed with stored answers. The arguments are two files a script: its calls, and the records that they refer to.
+
+#![tactic(auto)]
+
 ghost use Rattle.std.specs.Prelude.{◌≡◌, ◌<◌, ◌≤◌, length};
 ghost use Rattle.tracker.specs.Promise.{Came};
 ghost use Rattle.calls.specs.Internal.{call_words, call_length, longest, word_of, part_end};

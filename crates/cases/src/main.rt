@@ -1,6 +1,9 @@
 // Runs journals through the library: for each file named as an argument its name, its listing, all eight rows after each interval as the control
 // reader shows them, and then all of them as the trader's does (N6). A refusal ends each of the three.
 // The gate compares what is printed with stored listings, rows and views.
+
+#![tactic(auto)]
+
 use journal::LONGEST_JOURNAL;
 use report::Reader;
 

@@ -1,4 +1,7 @@
 // Rules 5 to 7: the counts of quiet intervals, the suspension, and the clamp of one direction.
+
+#![tactic(auto)]
+
 ghost use Rattle.std.specs.Prelude.{true, cond, ◌&&◌, ◌≡◌, eqb, ◌<◌, ◌≤◌, nat_abs};
 ghost use Rattle.rules.specs.Settings.{step_for};
 ghost use Rattle.rules.specs.Interval.{is_swamped, quiet, counted, rule5, rule6, band, lower, higher, clamp_from, rule7};

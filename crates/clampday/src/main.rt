@@ -1,4 +1,7 @@
 // Prints the listing of the journal on standard input. What is printed is decided in the library.
+
+#![tactic(auto)]
+
 use libc::STDIN_FILENO;
 
 fn main() {

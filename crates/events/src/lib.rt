@@ -1,4 +1,7 @@
 // What an accepted record says of each direction: residue and leftover, loop flag, estimate, review, status, blocked mark and target sum.
+
+#![tactic(auto)]
+
 ghost use Rattle.std.specs.Prelude.{◌≡◌, ◌<◌};
 ghost use Rattle.rules.specs.Market.{of_directions};
 ghost use Rattle.rules.specs.Record.{target_sum, event_of};

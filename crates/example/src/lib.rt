@@ -1,26 +1,29 @@
 // Callers of the tracker and of the two readers, as another crate would write them. What they say of their own lists of calls, demand 3 and N8's
 // law, and of the views that they were given (N6), they have from what the calls promise, and from nothing else.
+
+#![tactic(auto)]
+
 ghost use Rattle.example.specs.Own.{Own, Tried, Complete, Read, Told};
 
 use readers::{ControlView, TraderView};
 use rules::{Row, Settings};
 
 // The rows of VIC1_NSW1 and NSW1_VIC1.
-#[derive(Drop)]
+#[derive(Clone, Copy)]
 pub struct BothWays {
     pub forward: Row,
     pub back: Row,
 }
 
 // What both readers show of a row.
-#[derive(Drop)]
+#[derive(Clone, Copy)]
 pub struct Views {
     pub trader: TraderView,
     pub control: ControlView,
 }
 
 // What both readers show of two rows.
-#[derive(Drop)]
+#[derive(Clone, Copy)]
 pub struct TwoViews {
     pub one: Views,
     pub other: Views,

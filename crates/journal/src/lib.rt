@@ -1,6 +1,9 @@
 // The journal: records end to end with a trailer. A read checks all of it and says what it holds; the second call gives the records that survive
 // (N7); a write makes a journal. Every call takes any bytes: what the documents refuse comes back as its number. What they return, for every
 // input, is in journal_rules/specs/Promise.
+
+#![tactic(auto)]
+
 ghost use Rattle.std.specs.Prelude.{true, ◌≡◌, ◌+◌, ◌*◌, ◌<◌, ◌≤◌, length};
 ghost use mathlib.Core.List.{flatten};
 ghost use Rattle.words.specs.Buffer.{over};

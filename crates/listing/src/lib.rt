@@ -1,5 +1,8 @@
 // The listing of a journal: which rows are printed, each as a line, and all lines in one buffer. Every writer has the form of crate
 // `words`: it puts its bytes from a place on, gives the place after them, and leaves every other byte as it was.
+
+#![tactic(auto)]
+
 ghost use Rattle.std.specs.Prelude.{true, ◌≡◌, ℕ, ◌+◌, ◌<◌, ◌≤◌, length};
 ghost use mathlib.Core.List.{List, map, flatten};
 ghost use Rattle.io.specs.Counts.{IsPrefixLen};

@@ -1,4 +1,7 @@
 // Rule 4: the management period of one direction, and the notice.
+
+#![tactic(auto)]
+
 ghost use Rattle.std.specs.Prelude.{◌≡◌, ◌+◌, ◌≤◌};
 ghost use Rattle.rules.specs.Interval.{started, extends, continued, ended, rule4, held};
 ghost use Rattle.rules.specs.Refusal.{highest_number};

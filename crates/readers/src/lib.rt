@@ -1,11 +1,14 @@
 // Two readers of one row (N6): the trader's and the control room's. What each shows of a row, and what can be told from it, is in specs/.
+
+#![tactic(auto)]
+
 ghost use Rattle.readers.specs.Promise.{TraderPromise, ControlPromise};
 
 use rules::{Counts, Period, Row};
 use units::{Cents, Grains, Hundredths};
 
 // What the trader's reader shows: none, or seven fields of the row.
-#[derive(Drop)]
+#[derive(Clone, Copy)]
 pub enum TraderView {
     None,
     Shown {
@@ -20,7 +23,7 @@ pub enum TraderView {
 }
 
 // What the control reader shows: every field of the row.
-#[derive(Drop)]
+#[derive(Clone, Copy)]
 pub struct ControlView {
     pub n: u32,
     pub direction: usize,

@@ -1,4 +1,7 @@
 // What the bytes of a record say, and under which number they are refused.
+
+#![tactic(auto)]
+
 ghost use Rattle.std.specs.Prelude.{◌≡◌, ◌+◌, ◌%◌, ◌<◌, ◌≤◌, length};
 ghost use Rattle.std.specs.Int.Signed.{le_z};
 ghost use Rattle.signed.specs.Range.{within};
@@ -36,7 +39,7 @@ const PRE_DISPATCH_FLOW: usize = 120;
 const PRE_DISPATCH_LOSSES: usize = 124;
 
 // What a number of a record may be, at least and at most.
-#[derive(Drop)]
+#[derive(Clone, Copy)]
 struct Limits {
     low: i64,
     high: i64,
@@ -152,7 +155,7 @@ fn has_pre_dispatch(s: &[u8]) -> bool
 
 // What a record says of all directions alike: n, and of the flags that the interval is under review, that the loop is operating, and that
 // pre-dispatch is present.
-#[derive(Drop)]
+#[derive(Clone, Copy)]
 pub struct Header {
     pub n: u32,
     pub review: bool,

@@ -1,5 +1,8 @@
 // Prints what the readers show of rows (N6), and numbers; reads the files that arguments name, and settings from bytes: for the programs that the
 // gate runs.
+
+#![tactic(auto)]
+
 ghost use Rattle.std.specs.Prelude.{◌≡◌, ◌+◌, ◌*◌, ◌<◌, ◌≤◌, nat_abs, length};
 ghost use Rattle.io.specs.Counts.{IsPrefixLen};
 ghost use Rattle.tracker.specs.Promise.{Came, RowBounds, WithinHalfCent, highest_sum};
@@ -12,7 +15,7 @@ use rules::{Answer, DirectionSettings, Outcome, Period, RECORD, Row, Settings, T
 use units::{Cents, Grains, Hundredths};
 
 // Whose view of a row is printed (N6).
-#[derive(Drop)]
+#[derive(Clone, Copy)]
 pub enum Reader {
     Trader,
     Control,

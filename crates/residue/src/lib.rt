@@ -1,5 +1,8 @@
 // The residues of the eight directions with their leftovers, the loop flag and the estimate of one record: document 01's "Residue", rules 2
 // and 3, and N8.
+
+#![tactic(auto)]
+
 ghost use Rattle.std.specs.Prelude.{cond, ◌&&◌, ◌≡◌, ℕ, ◌<◌, ◌≤◌, eqb, pos, nat_abs, get_or};
 ghost use Rattle.signed.specs.Range.{minus};
 ghost use Rattle.rules.specs.Bounds.{highest_next};

@@ -21,7 +21,7 @@ rounding_from o calls d below =
     subst (Rounding (shares_of o) d (accepted o calls)) (sym ((demand3 o calls).each d below).sum) (direction_rounding (shares_of o) d (accepted o calls))
 
 -- Of an amount of which both parts hold:
-module _ {o : Opening} {calls : List (List ℕ)} {d : ℕ} {amount : Cents} (both : RoundingFrom o calls d amount) where
+module _ (o : Opening) (calls : List (List ℕ)) {d : ℕ} {amount : Cents} (both : RoundingFrom o calls d amount) where
   -- with 2,400,000 grains for each of its cents it differs from the unrounded sum by at most 1,200,000 for each interval in the span in which the
   -- grains were assigned to the direction;
   pub amount_near : nat_abs ((unrounded (shares_of o) d (accepted o calls)).0 -ℤ pos 2400000 *ℤ amount.0) ≤ 1200000 * length (assigned_of (shares_of o) d (span (shares_of o) d (accepted o calls)))

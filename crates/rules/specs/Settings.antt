@@ -30,8 +30,8 @@ abbrev pub offset_ok : Hundredths → Bool
 offset_ok offset = within (pos 0) (pos 100000) offset.0
 
 -- The steps and the offset of direction d. (There is no direction above 7.)
-abbrev pub field_own : List DirectionSettings → ℕ → DirectionSettings
-field_own directions d = get_or directions d (record { steps = []; offset = hundredths (pos 0) })
+abbrev pub own_at : List DirectionSettings → ℕ → DirectionSettings
+own_at directions d = get_or directions d (record { steps = []; offset = hundredths (pos 0) })
 
 -- Document 01's numbers are the settings when none are given: the threshold, the edges between the bands of net, the steps in MW (000,
 -- table 2), a row for each direction, and the offset.

@@ -1,4 +1,7 @@
 // The types of the tracker, and the numbers that several crates need. Their meaning is in specs/, in document 01's order; there is no code here.
+
+#![tactic(auto)]
+
 use units::{Cents, Grains, Hundredths};
 
 // The highest interval number.
@@ -11,7 +14,7 @@ pub const RECORD: usize = 168;
 pub const SWAMPED: Hundredths = Hundredths(2_000_000);
 
 // A corridor: the regions that it runs from and to, and its physical interconnectors, `lines` of them from number `first` on.
-#[derive(Drop)]
+#[derive(Clone, Copy)]
 pub struct Corridor {
     pub from: usize,
     pub to: usize,
@@ -20,21 +23,21 @@ pub struct Corridor {
 }
 
 // Document 01's a and b of a physical interconnector.
-#[derive(Drop)]
+#[derive(Clone, Copy)]
 pub struct Line {
     pub a: Hundredths,
     pub b: Hundredths,
 }
 
 // A residue in whole cents, and the part of a cent left over (N8).
-#[derive(Drop)]
+#[derive(Clone, Copy)]
 pub struct Residue {
     pub cents: Cents,
     pub leftover: Grains,
 }
 
 // A corridor's residue, and whether its flow is To_From.
-#[derive(Drop)]
+#[derive(Clone, Copy)]
 pub struct CorridorResidue {
     pub residue: Residue,
     pub reverse: bool,
@@ -42,7 +45,7 @@ pub struct CorridorResidue {
 
 // What an accepted record says of one direction. The status is 0 unbound, 1 bound, 2 violated; the target is the corridor's
 // target sum in the sense of the direction; a loop flag of 1 is true.
-#[derive(Drop)]
+#[derive(Clone, Copy)]
 pub struct Event {
     pub n: u32,
     pub flag: bool,
@@ -55,7 +58,7 @@ pub struct Event {
     pub target: Hundredths,
 }
 
-#[derive(Drop)]
+#[derive(Clone, Copy)]
 pub struct Sums {
     pub previous: Cents,
     pub current: Cents,
@@ -63,7 +66,7 @@ pub struct Sums {
 }
 
 // A management period: none, or first, last and whether extended.
-#[derive(Drop)]
+#[derive(Clone, Copy)]
 pub enum Period {
     None,
     Held {
@@ -74,20 +77,20 @@ pub enum Period {
 }
 
 // What rule 4 leaves: the period, and the notice (1 start, 2 end, 0 none).
-#[derive(Drop)]
+#[derive(Clone, Copy)]
 pub struct Managed {
     pub period: Period,
     pub notice: u8,
 }
 
-#[derive(Drop)]
+#[derive(Clone, Copy)]
 pub struct Counts {
     pub unbound: u8,
     pub violated: u8,
 }
 
 // One direction's state: what the rules keep, and what its row shows of the latest accepted interval.
-#[derive(Drop)]
+#[derive(Clone, Copy)]
 pub struct Direction {
     pub sums: Sums,
     pub period: Period,
@@ -103,14 +106,14 @@ pub struct Direction {
 }
 
 // One direction's settings: a step for each of the four bands of net, and the offset (N2).
-#[derive(Drop)]
+#[derive(Clone, Copy)]
 pub struct DirectionSettings {
     pub steps: [Hundredths; 4],
     pub offset: Hundredths,
 }
 
 // The numbers that the operator reviews (N2): the threshold, the edges between the four bands of net, and each direction's own.
-#[derive(Drop)]
+#[derive(Clone, Copy)]
 pub struct Settings {
     pub threshold: Cents,
     pub edges: [Cents; 3],
@@ -118,7 +121,7 @@ pub struct Settings {
 }
 
 // The tracker: the settings and the shares of its opening, the number that its rows show, the awaited number, and the eight directions.
-#[derive(Drop)]
+#[derive(Clone, Copy)]
 pub struct Tracker {
     pub settings: Settings,
     pub shares: [u16; 6],
@@ -127,7 +130,7 @@ pub struct Tracker {
     pub directions: [Direction; 8],
 }
 
-#[derive(Drop)]
+#[derive(Clone, Copy)]
 pub struct Row {
     pub n: u32,
     pub direction: usize,
@@ -148,21 +151,21 @@ pub struct Row {
 }
 
 // How a call ends: accepted, or refused under a number.
-#[derive(Drop)]
+#[derive(Clone, Copy)]
 pub enum Outcome {
     Accepted,
     Refused(u8),
 }
 
 // The answer of an opening and of an interval call: the tracker to go on with stands beside the outcome.
-#[derive(Drop)]
+#[derive(Clone, Copy)]
 pub struct Answer {
     pub outcome: Outcome,
     pub tracker: Tracker,
 }
 
 // The answer of a row call.
-#[derive(Drop)]
+#[derive(Clone, Copy)]
 pub struct RowAnswer {
     pub outcome: Outcome,
     pub row: Row,

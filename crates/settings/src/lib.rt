@@ -1,4 +1,7 @@
 // The settings of an opening (N2): document 01's numbers, and what is asked of any others.
+
+#![tactic(auto)]
+
 ghost use Rattle.std.specs.Prelude.{map, ◌≡◌, ◌<◌, pos, get_or};
 ghost use Rattle.rules.specs.Settings.{documented_steps, documented_direction, document01};
 ghost use Rattle.rules.specs.Refusal.{edges_ok, steps_ok, direction_ok, directions_ok, inside_spans, rising};

@@ -1,5 +1,8 @@
 // Runs journals through the library with settings (N2): for each journal its name, and all eight rows after each interval. The gate compares what
 // is printed with stored rows. The arguments are two files a case: its settings, and its journal.
+
+#![tactic(auto)]
+
 ghost use Rattle.std.specs.Prelude.{◌≡◌, length};
 
 use journal::LONGEST_JOURNAL;

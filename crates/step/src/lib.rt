@@ -1,4 +1,7 @@
 // One interval of one direction: rules 1 to 7 in turn.
+
+#![tactic(auto)]
+
 ghost use Rattle.std.specs.Prelude.{◌≡◌};
 ghost use Rattle.rules.specs.Interval.{rule7, step_of};
 ghost use Rattle.step.specs.Internal.{alone, Movable, Steppable};
@@ -7,7 +10,7 @@ use rules::{Direction, DirectionSettings, Event, Period};
 use units::{Cents, Hundredths};
 
 // What one direction reads of the settings: handed on alone, so that they are not copied whole for each direction.
-#[derive(Drop)]
+#[derive(Clone, Copy)]
 pub struct Terms {
     pub threshold: Cents,
     pub edges: [Cents; 3],

@@ -1,4 +1,7 @@
 // Rules 1 to 3: the sums of one direction, its amount, and whether the threshold is reached.
+
+#![tactic(auto)]
+
 ghost use Rattle.std.specs.Prelude.{◌≡◌, ◌+◌, ◌≤◌, nat_abs};
 ghost use Rattle.rules.specs.Interval.{place, clears_at, rule1, grown, cleared_if_zero, rule2, amount, reached};
 ghost use Rattle.rules.specs.Bounds.{highest_residue, highest_next, highest_sum};

@@ -1,5 +1,8 @@
 // Numbers as decimal text, put into a lent buffer from their end on: dividing gives the last digits first. A writer here is told the place after
 // its bytes, gives the place where they begin, and leaves every other byte as it was.
+
+#![tactic(auto)]
+
 ghost use Rattle.std.specs.Prelude.{◌≡◌, ◌<◌, ◌≤◌, nat_abs};
 ghost use Rattle.signed.specs.Range.{negative};
 ghost use Rattle.words.specs.Buffer.{Room, RoomBefore, Puts};
@@ -54,7 +57,7 @@ pub fn number(n: u64, ender: u8, out: &mut [u8], end: usize) -> usize
 }
 
 // The digits of an amount, of a flow or of a leftover, without the unit. Private: a number is printed only as what it is, by `cents`, `hundredths` or `grains`.
-#[derive(Drop)]
+#[derive(Clone, Copy)]
 struct Plain(i64);
 
 impl Plain {

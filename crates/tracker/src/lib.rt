@@ -1,4 +1,7 @@
 // The clamp tracker: two openings, an interval call and a row. What each returns, for every input, is in specs/Promise.
+
+#![tactic(auto)]
+
 ghost use Rattle.std.specs.Prelude.{true, ◌≡◌, ◌<◌, replicate};
 ghost use Rattle.rules.specs.Interval.{fresh};
 ghost use Rattle.rules.specs.Refusal.{each, share_ok};

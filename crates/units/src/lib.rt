@@ -1,4 +1,7 @@
 // Money, megawatts and grains as types of their own: a flow can never be passed for an amount, nor an amount for a flow.
+
+#![tactic(auto)]
+
 ghost use Rattle.std.specs.Prelude.{◌≡◌, pos, ◌+ℤ◌, ◌-ℤ◌, ◌*ℤ◌};
 ghost use Rattle.std.specs.Int.Signed.{le_z, lt_z};
 ghost use Rattle.std.specs.Int.{w64};
@@ -7,15 +10,15 @@ ghost use Rattle.signed.specs.Range.{negative, eq_z, within};
 ghost use Rattle.units.specs.Units.{◌+ᶜ◌, ◌+ʰ◌, ◌×ʰ◌, -ʰ◌, ◌+ᵍ◌, ◌-ᵍ◌, lower_of_zero, in_grains};
 
 // A price, a residue or an amount, in cents.
-#[derive(Drop)]
+#[derive(Clone, Copy)]
 pub struct Cents(pub i64);
 
 // A flow, losses or a clamp, in hundredths of a MW.
-#[derive(Drop)]
+#[derive(Clone, Copy)]
 pub struct Hundredths(pub i64);
 
 // Parts of a cent, as the residue formula gives them and rounding leaves them over (N8): 2,400,000 grains are one cent.
-#[derive(Drop)]
+#[derive(Clone, Copy)]
 pub struct Grains(pub i64);
 
 impl Cents {

@@ -1,5 +1,8 @@
 // Numbers as bytes hold them, the lowest byte first, and bytes put into a lent buffer. Every writer, also of other crates, has one form: it
 // puts its bytes from a place on, gives the place after them, and leaves every other byte as it was. So a caller chains them.
+
+#![tactic(auto)]
+
 ghost use Rattle.std.specs.Prelude.{◌≡◌, ◌∷◌, [], ◌+◌, ◌*◌, ◌<◌, ◌≤◌, length};
 ghost use Rattle.rules.specs.Record.{byte_at, u32_at};
 ghost use Rattle.words.specs.Buffer.{little_of, Room, RoomBefore, Puts};
