@@ -1,10 +1,7 @@
 -- `step::step` meets its contract: each rule's result is the definition's, and each rule's ranges follow from the state's bounds.
-use Rattle.std.proofs.Common.{◌≡◌, ◌≤◌, eqb, nat_abs}
+use Rattle.std.proofs.Common.{◌≡◌, eqb}
 use Rattle.rules.specs.declared.Direction.{Direction}
 use Rattle.rules.specs.declared.Event.{Event}
-use Rattle.rules.specs.declared.Managed.{Managed}
-use Rattle.rules.specs.declared.Counts.{Counts}
-use Rattle.rules.specs.Bounds.{highest_residue, Bounds}
 use Rattle.rules.specs.Interval.{place, clears_at, rule1, sums_after, managed_after, counts_after, suspended_after, step_of}
 use Rattle.sums.specs.Internal.{Growable, Addable}
 use Rattle.sums.proofs.SumsSize.{start_countable, rule2_addable, amount_size}
