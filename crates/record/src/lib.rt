@@ -222,6 +222,7 @@ fn zero_bytes(s: &[u8]) -> bool
     s[15] == 0
 }
 
+#[tactic(auto, unfolding(rules::specs::Refusal::bad_flags))]
 fn bad_flags(s: &[u8]) -> bool
     requires { Whole s.now }
     ensures { result ≡ bad_flags s.now }
@@ -249,6 +250,7 @@ fn status_ok(x: u8) -> bool
     x <= 6
 }
 
+#[tactic(auto, unfolding(rules::specs::Refusal::bad_status))]
 fn bad_status(s: &[u8]) -> bool
     requires { Whole s.now }
     ensures { result ≡ bad_status s.now }
@@ -318,6 +320,7 @@ fn losses_ok(s: &[u8], at: usize, stride: usize) -> bool
     all_within(s, at, stride, 6, LOSS_LIMITS)
 }
 
+#[tactic(auto, using(rules::proofs::RecordRanges::lines_by_kind), unfolding(rules::specs::Refusal::bad_flow))]
 fn bad_flow(s: &[u8]) -> bool
     requires { Whole s.now }
     ensures { result ≡ bad_flow s.now }
@@ -331,6 +334,7 @@ fn bad_flow(s: &[u8]) -> bool
     !losses_ok(s, LOSSES, LINE)
 }
 
+#[tactic(auto, using(rules::proofs::RecordRanges::pre_dispatch_lines_by_kind), unfolding(rules::specs::Refusal::pre_dispatch_inside))]
 fn pre_dispatch_inside(s: &[u8]) -> bool
     requires { Whole s.now }
     ensures { result ≡ pre_dispatch_inside s.now }
@@ -345,6 +349,7 @@ fn pre_dispatch_inside(s: &[u8]) -> bool
 }
 
 // Absent pre-dispatch is all zero: 16 numbers, up to the end of the record.
+#[tactic(auto, unfolding(rules::specs::Refusal::pre_dispatch_zero))]
 fn pre_dispatch_zero(s: &[u8]) -> bool
     requires { Whole s.now }
     ensures { result ≡ pre_dispatch_zero s.now }
@@ -357,6 +362,7 @@ fn pre_dispatch_zero(s: &[u8]) -> bool
     true
 }
 
+#[tactic(auto, unfolding(rules::specs::Refusal::bad_pre_dispatch))]
 fn bad_pre_dispatch(s: &[u8]) -> bool
     requires { Whole s.now }
     ensures { result ≡ bad_pre_dispatch s.now }
@@ -369,6 +375,7 @@ fn bad_pre_dispatch(s: &[u8]) -> bool
 }
 
 // The first condition that is met gives the number. Each later one relies on the length that the first has tested.
+#[tactic(auto, unfolding(rules::specs::Refusal::interval_outcome, rules::specs::Refusal::interval_conditions, rules::specs::Refusal::bad_price))]
 pub fn interval_outcome(awaited: u32, s: &[u8]) -> Outcome
     ensures { result ≡ interval_outcome awaited s.now }
 {
