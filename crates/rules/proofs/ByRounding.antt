@@ -8,7 +8,7 @@ use lib.IntN.{pos, nat_abs, ◌-ℤ◌, ◌*ℤ◌}
 use lib.ListN.{length}
 use Rattle.units.specs.declared.Cents.{Cents}
 use Rattle.units.specs.Units.{cents, grains}
-use Rattle.rules.specs.Rounding.{span, assigned_of, assigned_span, unrounded, Rounding, RoundingFrom}
+use Rattle.rules.specs.Rounding.{span, assigned_of, unrounded, Rounding, RoundingFrom}
 use Rattle.rules.specs.Tracker.{Opening, shares_of, row_of, run}
 use Rattle.rules.specs.Claim.{accepted, history}
 use Rattle.rules.proofs.Demand.{demand3}

@@ -26,7 +26,7 @@ use Rattle.rules.specs.declared.Tracker.{Tracker}
 use Rattle.rules.specs.declared.DirectionSettings.{DirectionSettings}
 use Rattle.rules.specs.declared.Settings.{Settings}
 use Rattle.rules.specs.Settings.{step_for, own_at}
-use Rattle.rules.specs.Interval.{place, clears_at, swamped, is_swamped, at_half_hour_start, cleared, grown, rule2, amount, next_of, held, counted, status_unbound, status_violated, quiet, rule5, lower, higher, highest_clamp, clamp_from, band, rule7, sums_after, managed_after, suspended_after, step_of}
+use Rattle.rules.specs.Interval.{place, clears_at, swamped, is_swamped, at_half_hour_start, cleared, grown, rule2, next_of, held, counted, status_unbound, status_violated, quiet, rule5, lower, higher, highest_clamp, clamp_from, band, rule7, sums_after, managed_after, suspended_after, step_of}
 use Rattle.rules.specs.History.{clearing, since_clearing, sum_negative, sum_since, state_after}
 use Rattle.rules.specs.Record.{record_number, present, prices, lines, pre_dispatch_prices, pre_dispatch_lines, flag, pre_dispatch_residue, event_of}
 use Rattle.rules.specs.Refusal.{highest_number, direction_ok}
