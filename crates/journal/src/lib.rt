@@ -53,6 +53,7 @@ fn issue_at(records: &[u8], i: usize) -> u8
     records[RECORD * i + ISSUE]
 }
 
+#[tactic(auto, unfolding(journal_rules::specs::Journal::first_number))]
 fn first_number(records: &[u8]) -> u32
     ensures { result ≡ first_number records.now }
 {
@@ -62,6 +63,7 @@ fn first_number(records: &[u8]) -> u32
     number_at(records, 0)
 }
 
+#[tactic(auto, unfolding(journal_rules::specs::Journal::last_number))]
 fn last_number(records: &[u8]) -> u32
     ensures { result ≡ last_number records.now }
 {
@@ -118,6 +120,7 @@ fn trailer_word(journal: &[u8], k: usize) -> u32
     words::u32_at(journal, journal.len() - TRAILER + 4 * k)
 }
 
+#[tactic(auto, unfolding(journal_rules::specs::Journal::bad_length))]
 fn bad_length(journal: &[u8]) -> bool
     ensures { result ≡ bad_length journal.now }
 {
@@ -128,6 +131,7 @@ fn bad_length(journal: &[u8]) -> bool
 }
 
 // Where the trailer says that the records are: only then may `part` go there.
+#[tactic(auto, unfolding(journal_rules::specs::Journal::bad_trailer))]
 fn bad_trailer(journal: &[u8]) -> bool
     requires { trailer_length ≤ length journal.now }
     ensures { result ≡ bad_trailer journal.now }
@@ -147,6 +151,7 @@ fn bad_trailer(journal: &[u8]) -> bool
 }
 
 // The part of the journal that holds the records.
+#[tactic(auto, unfolding(journal_rules::specs::Journal::part))]
 fn part(journal: &[u8]) -> &[u8]
     requires { Shaped journal.now }
     ensures { result.now ≡ part journal.now }
@@ -157,6 +162,7 @@ fn part(journal: &[u8]) -> &[u8]
 }
 
 // What the trailer says of the records, against the records.
+#[tactic(auto, unfolding(journal_rules::specs::Journal::bad_numbers))]
 fn bad_numbers(first: u32, last: u32, records: &[u8]) -> bool
     ensures { result ≡ bad_numbers first last records.now }
 {
@@ -313,6 +319,7 @@ pub fn survivors(journal: &[u8], out: &mut [u8]) -> Surviving
     }
 }
 
+#[tactic(auto, unfolding(journal_rules::specs::Journal::bad_records))]
 fn bad_records(records: &[u8]) -> bool
     ensures { result ≡ bad_records records.now }
 {
