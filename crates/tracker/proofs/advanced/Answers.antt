@@ -1,5 +1,5 @@
 -- The events are the record's, and the directions are stepped by them.
-use Rattle.std.proofs.Common.{◌≡◌, ◌∙◌, List, ℕ, suc, length, arith, rules}
+use Rattle.std.proofs.Common.{◌≡◌, ◌∙◌, List, ℕ, suc, arith, rules}
 use Rattle.rules.specs.declared.Direction.{Direction}
 use Rattle.rules.specs.declared.Settings.{Settings}
 use Rattle.rules.specs.Tracker.{tracker, advanced}

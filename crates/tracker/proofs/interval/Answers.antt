@@ -2,7 +2,7 @@
 use Rattle.rules.specs.Refusal.{interval_outcome}
 use Rattle.rules.specs.declared.Outcome.TheVariants.{Accepted, Refused}
 use Rattle.rules.specs.Tracker.{interval_of}
-use Rattle.std.proofs.Common.{◌≡◌, sym, ◌∙◌}
+use Rattle.std.proofs.Common.{◌≡◌, sym}
 use Rattle.tracker.proofs.Promise.{interval_promise}
 use Rattle.tracker.proofs.interval.Goals as goal
 
