@@ -3,7 +3,7 @@
 
 #![tactic(auto)]
 
-ghost use Rattle.std.specs.Prelude.{true, ◌≡◌, ℕ, ◌+◌, ◌<◌, ◌≤◌, length};
+ghost use Rattle.std.specs.Prelude.{true, ◌≡◌, ℕ, ◌+◌, ◌<◌, ◌≤◌, length, IfOk};
 ghost use mathlib.Core.List.{List, map, flatten};
 ghost use Rattle.io.specs.Counts.{IsPrefixLen};
 ghost use Rattle.words.specs.Buffer.{over, Room, RoomBefore, Puts};
@@ -16,8 +16,9 @@ ghost use Rattle.listing.specs.Internal.{kept_names, row_text, EightBounded};
 ghost use Rattle.listing.specs.Listing.{ended_by, opened_lines, record_lines, body_lines, input_lines, listing_of, longest_listing};
 
 use journal_rules::Found;
-use libc::STDOUT_FILENO;
 use rules::{Outcome, RECORD, Row, Tracker};
+use std::io;
+use std::io::Read;
 
 // How long the longest listing is, `longestListing`: a header and 288 intervals of eight lines. A buffer needs no more.
 pub const ROOM: usize = 218942;
@@ -260,13 +261,33 @@ pub fn listing(input: &[u8], more: bool, out: &mut [u8]) -> usize
     input_lines(input, more, out, e)
 }
 
-// Reads a journal from an open file into one lent buffer, and whether more follows; lists it in the other, and prints that.
-pub fn print_listing(file: i32, input: &mut [u8], out: &mut [u8])
+// Reads until the buffer is full or the input ends, and gives how many bytes stand at the buffer's start.
+pub fn read_full<R: Read>(source: &mut R, buffer: &mut [u8]) -> io::Result<usize>
+    ensures { IfOk result (λ n. IsPrefixLen n buffer.new) }
+{
+    let mut done = 0;
+    while done < buffer.len() {
+        let n = source.read(&mut buffer[done..])?;
+        if n == 0 {
+            break;
+        }
+        done += n;
+    }
+    Ok(done)
+}
+
+// Reads a journal into one lent buffer, and whether more follows; lists it in the other, and prints that.
+pub fn print_listing<R: Read>(
+    rt: &impl Print,
+    source: &mut R,
+    input: &mut [u8],
+    out: &mut [u8],
+) -> io::Result<()>
     requires { longest_listing ≤ length out.old }
 {
     let mut beyond = [0u8; 1];
-    let n = io::read_full(file, input);
-    let more = io::read_full(file, &mut beyond) != 0;
+    let n = read_full(source, input)?;
+    let more = read_full(source, &mut beyond)? != 0;
     let k = listing(&input[..n], more, out);
-    io::write_all(STDOUT_FILENO, &out[..k]);
+    rt.write_all(&out[..k])
 }
