@@ -3,15 +3,17 @@
 
 #![tactic(auto)]
 
-ghost use Rattle.std.specs.Prelude.{◌≡◌, ◌+◌, ◌*◌, ◌<◌, ◌≤◌, nat_abs, length};
+ghost use Rattle.std.specs.Prelude.{◌≡◌, ◌+◌, ◌*◌, ◌<◌, ◌≤◌, nat_abs, length, IfOk};
 ghost use Rattle.io.specs.Counts.{IsPrefixLen};
 ghost use Rattle.tracker.specs.Promise.{Came, RowBounds, WithinHalfCent, highest_sum};
 ghost use Rattle.readers.specs.Views.{row_shown};
 
 use journal_rules::{Found, Surviving};
-use libc::STDOUT_FILENO;
 use readers::{ControlView, TraderView};
 use rules::{Answer, DirectionSettings, Outcome, Period, RECORD, Row, Settings, Tracker};
+use std::io::Read;
+use std::rt::Files;
+use std::{fs, io};
 use units::{Cents, Grains, Hundredths};
 
 // Whose view of a row is printed (N6).
@@ -22,82 +24,80 @@ pub enum Reader {
 }
 
 // A number and the byte that ends it.
-pub fn print_number(n: u64, end: u8) {
-    let text = [end];
-    io::print_decimal(STDOUT_FILENO, n);
-    io::write_all(STDOUT_FILENO, &text);
+pub fn print_number(rt: &impl Print, n: u64, end: u8) -> io::Result<()> {
+    let mut out = [0u8; 32];
+    let from = text::number(n, end, &mut out, 32);
+    rt.write_all(&out[from..])
 }
 
-fn print_bool(flag: bool) {
+fn print_bool(rt: &impl Print, flag: bool) -> io::Result<()> {
     if flag {
-        print_number(1, b',');
+        print_number(rt, 1, b',')
     } else {
-        print_number(0, b',');
+        print_number(rt, 0, b',')
     }
 }
 
-fn print_cents(z: Cents, end: u8)
+fn print_cents(rt: &impl Print, z: Cents, end: u8) -> io::Result<()>
     requires { nat_abs z.0 ≤ highest_sum }
 {
     let mut out = [0u8; 32];
     let from = text::cents(z, end, &mut out, 32);
-    io::write_all(STDOUT_FILENO, &out[from..]);
+    rt.write_all(&out[from..])
 }
 
-fn print_hundredths(z: Hundredths)
+fn print_hundredths(rt: &impl Print, z: Hundredths) -> io::Result<()>
     requires { nat_abs z.0 ≤ 2000000 }
 {
     let mut out = [0u8; 32];
     let from = text::hundredths(z, b',', &mut out, 32);
-    io::write_all(STDOUT_FILENO, &out[from..]);
+    rt.write_all(&out[from..])
 }
 
 // A leftover, which ends its line.
-fn print_grains(z: Grains)
+fn print_grains(rt: &impl Print, z: Grains) -> io::Result<()>
     requires { WithinHalfCent z }
 {
     let mut out = [0u8; 32];
     let from = text::grains(z, b'\n', &mut out, 32);
-    io::write_all(STDOUT_FILENO, &out[from..]);
+    rt.write_all(&out[from..])
 }
 
 // Held or not, first, last, extended; no period is four zeros.
-fn print_period(p: Period) {
+fn print_period(rt: &impl Print, p: Period) -> io::Result<()> {
     match p {
-        Period::None => {
-            io::write_all(STDOUT_FILENO, b"0,0,0,0,");
-        }
+        Period::None => rt.write_all(b"0,0,0,0,"),
         Period::Held {
             first,
             last,
             extended,
         } => {
-            io::write_all(STDOUT_FILENO, b"1,");
-            print_number(first as u64, b',');
-            print_number(last as u64, b',');
-            print_bool(extended);
+            rt.write_all(b"1,")?;
+            print_number(rt, first as u64, b',')?;
+            print_number(rt, last as u64, b',')?;
+            print_bool(rt, extended)
         }
     }
 }
 
 // The fields of a control view after its period, to the line's end: the leftover is the last.
-fn print_after_period(view: ControlView)
+fn print_after_period(rt: &impl Print, view: ControlView) -> io::Result<()>
     requires { RowBounds (row_shown view) }
 {
     let counts = view.counts;
     let clamp = view.clamp;
     let leftover = view.leftover;
-    print_number(counts.unbound as u64, b',');
-    print_number(counts.violated as u64, b',');
-    print_bool(view.blocked);
-    print_bool(view.flag);
-    print_hundredths(clamp);
-    print_number(view.notice as u64, b',');
-    print_grains(leftover);
+    print_number(rt, counts.unbound as u64, b',')?;
+    print_number(rt, counts.violated as u64, b',')?;
+    print_bool(rt, view.blocked)?;
+    print_bool(rt, view.flag)?;
+    print_hundredths(rt, clamp)?;
+    print_number(rt, view.notice as u64, b',')?;
+    print_grains(rt, leftover)
 }
 
 // Every field of a control view, in one line.
-fn print_control(view: ControlView)
+fn print_control(rt: &impl Print, view: ControlView) -> io::Result<()>
     requires { RowBounds (row_shown view) }
 {
     let residue = view.residue;
@@ -107,35 +107,33 @@ fn print_control(view: ControlView)
     let next = view.next;
     let net = view.net;
     let period = view.period;
-    print_number(view.n as u64, b',');
-    print_number(view.direction as u64, b',');
-    print_cents(residue, b',');
-    print_bool(view.applies);
-    print_cents(previous, b',');
-    print_cents(current, b',');
-    print_cents(amount, b',');
-    print_cents(next, b',');
-    print_cents(net, b',');
-    print_period(period);
-    print_after_period(view);
+    print_number(rt, view.n as u64, b',')?;
+    print_number(rt, view.direction as u64, b',')?;
+    print_cents(rt, residue, b',')?;
+    print_bool(rt, view.applies)?;
+    print_cents(rt, previous, b',')?;
+    print_cents(rt, current, b',')?;
+    print_cents(rt, amount, b',')?;
+    print_cents(rt, next, b',')?;
+    print_cents(rt, net, b',')?;
+    print_period(rt, period)?;
+    print_after_period(rt, view)
 }
 
 // A row in one line, as the control reader shows it: every field.
-pub fn print_row(r: Row)
+pub fn print_row(rt: &impl Print, r: Row) -> io::Result<()>
     requires { RowBounds r }
 {
-    print_control(readers::control(r));
+    print_control(rt, readers::control(r))
 }
 
 // A row in one line, as the trader's reader shows it: `none`, or the seven fields.
-fn print_for_trader(r: Row)
+fn print_for_trader(rt: &impl Print, r: Row) -> io::Result<()>
     requires { RowBounds r }
 {
     let view = readers::trader(r);
     match view {
-        TraderView::None => {
-            io::write_all(STDOUT_FILENO, b"none\n");
-        }
+        TraderView::None => rt.write_all(b"none\n"),
         TraderView::Shown {
             n,
             direction,
@@ -145,44 +143,45 @@ fn print_for_trader(r: Row)
             current,
             next,
         } => {
-            print_number(n as u64, b',');
-            print_number(direction as u64, b',');
-            print_bool(applies);
-            print_cents(amount, b',');
-            print_cents(previous, b',');
-            print_cents(current, b',');
-            print_cents(next, b'\n');
+            print_number(rt, n as u64, b',')?;
+            print_number(rt, direction as u64, b',')?;
+            print_bool(rt, applies)?;
+            print_cents(rt, amount, b',')?;
+            print_cents(rt, previous, b',')?;
+            print_cents(rt, current, b',')?;
+            print_cents(rt, next, b'\n')
         }
     }
 }
 
 // A row in one line, as a reader shows it.
-fn print_seen(r: Row, reader: Reader)
+fn print_seen(rt: &impl Print, r: Row, reader: Reader) -> io::Result<()>
     requires { RowBounds r }
 {
     match reader {
-        Reader::Trader => print_for_trader(r),
-        Reader::Control => print_row(r),
+        Reader::Trader => print_for_trader(rt, r),
+        Reader::Control => print_row(rt, r),
     }
 }
 
-pub fn print_refusal(number: u8) {
-    io::write_all(STDOUT_FILENO, b"refused,");
-    print_number(number as u64, b'\n');
+pub fn print_refusal(rt: &impl Print, number: u8) -> io::Result<()> {
+    rt.write_all(b"refused,")?;
+    print_number(rt, number as u64, b'\n')
 }
 
 // The eight rows of a tracker.
-fn print_rows(t: Tracker, reader: Reader)
+fn print_rows(rt: &impl Print, t: Tracker, reader: Reader) -> io::Result<()>
     requires { Came t }
 {
     for d in 0..8 {
         let a = tracker::row(t, d);
-        print_seen(a.row, reader);
+        print_seen(rt, a.row, reader)?;
     }
+    Ok(())
 }
 
 // The rows after each record in its turn, up to a refusal.
-fn run(t: Tracker, records: &[u8], reader: Reader)
+fn run(rt: &impl Print, t: Tracker, records: &[u8], reader: Reader) -> io::Result<()>
     requires { Came t }
 {
     let mut now = t;
@@ -192,69 +191,67 @@ fn run(t: Tracker, records: &[u8], reader: Reader)
         let a = tracker::interval(now, &records[at..end]);
         let outcome = a.outcome;
         match outcome {
-            Outcome::Refused(number) => {
-                print_refusal(number);
-                return;
-            }
+            Outcome::Refused(number) => return print_refusal(rt, number),
             Outcome::Accepted => {}
         }
         now = a.tracker;
-        print_rows(now, reader);
+        print_rows(rt, now, reader)?;
         at = end;
     }
+    Ok(())
 }
 
 // As long as the most records of a journal are.
 const MOST_BYTES: usize = 48384;
 
 // The rows of the surviving records of a journal (N7), which the second call gives.
-fn run_survivors(t: Tracker, journal: &[u8], reader: Reader)
+fn run_survivors(rt: &impl Print, t: Tracker, journal: &[u8], reader: Reader) -> io::Result<()>
     requires { Came t }
 {
     let mut records = [0u8; MOST_BYTES];
     let given = journal::survivors(journal, &mut records);
     match given {
-        Surviving::Records(count) => run(t, &records[..RECORD * count as usize], reader),
-        Surviving::Refused(number) => print_refusal(number),
+        Surviving::Records(count) => run(rt, t, &records[..RECORD * count as usize], reader),
+        Surviving::Refused(number) => print_refusal(rt, number),
     }
 }
 
 // What an opening answered, and the surviving records of a journal after it: all rows, as a reader shows them, or a refusal.
-pub fn print_opened(opened: Answer, journal: &[u8], reader: Reader)
+pub fn print_opened(
+    rt: &impl Print,
+    opened: Answer,
+    journal: &[u8],
+    reader: Reader,
+) -> io::Result<()>
     requires { Came opened.tracker }
 {
     let outcome = opened.outcome;
     if let Outcome::Refused(number) = outcome {
-        print_refusal(number);
-        return;
+        return print_refusal(rt, number);
     }
-    run_survivors(opened.tracker, journal, reader);
+    run_survivors(rt, opened.tracker, journal, reader)
 }
 
 // The header of rows as the control reader shows them.
-pub fn print_header() {
-    io::write_all(
-        STDOUT_FILENO,
+pub fn print_header(rt: &impl Print) -> io::Result<()> {
+    rt.write_all(
         b"n,direction,r,applies,previous,current,amount,next,net,held,first,last,extended,",
-    );
-    io::write_all(
-        STDOUT_FILENO,
-        b"unbound,violated,blocked,flag,clamp,notice,leftover\n",
-    );
+    )?;
+    rt.write_all(b"unbound,violated,blocked,flag,clamp,notice,leftover\n")
 }
 
 // What a read finds in a journal: a refusal is printed.
-pub fn print_found(bytes: &[u8]) -> Found {
+pub fn print_found(rt: &impl Print, bytes: &[u8]) -> io::Result<Found> {
     let found = journal::read(bytes);
     if let Found::Refused(number) = found {
-        print_refusal(number);
+        print_refusal(rt, number)?;
     }
-    found
+    Ok(found)
 }
 
 // All eight rows after each interval of a journal, opened as clampday opens it, as a reader shows them.
-pub fn print_journal(bytes: &[u8], reader: Reader) {
-    let found = print_found(bytes);
+pub fn print_journal(rt: &impl Print, bytes: &[u8], reader: Reader) -> io::Result<()> {
+    let found = print_found(rt, bytes)?;
     if let Found::Journal {
         count,
         first,
@@ -263,9 +260,10 @@ pub fn print_journal(bytes: &[u8], reader: Reader) {
     {
         if count != 0 {
             let opened = tracker::open(first, [500; 6]);
-            print_opened(opened, bytes, reader);
+            return print_opened(rt, opened, bytes, reader);
         }
     }
+    Ok(())
 }
 
 // Number k of bytes that hold i32.
@@ -326,34 +324,50 @@ pub fn settings_in(bytes: &[u8]) -> Settings
     }
 }
 
-// Argument i of the program, which names a file, in a line of its own.
-pub fn print_argument(i: usize) {
-    let mut name = [0u8; 64];
-    let k = os::arg(i, &mut name);
-    io::write_all(STDOUT_FILENO, b"== ");
-    io::write_all(STDOUT_FILENO, &name[..k]);
-    io::write_all(STDOUT_FILENO, b"\n");
-}
-
-// The file that argument i names, open for reading. One that is not there has no bytes, and a line that no case has says so: it must not look
-// like an empty file.
-pub fn open_argument(i: usize) -> i32 {
-    let mut name = [0u8; 64];
-    let k = os::arg(i, &mut name);
-    let file = os::open_read(&name[..k]);
-    if file < 0 {
-        io::write_all(STDOUT_FILENO, b"not opened\n");
-        os::fail(&name[..k]);
+// Argument i of the program, whose own name is argument 0. Where there is none, it is empty, which no file is called.
+pub fn argument(arguments: &[String], i: usize) -> &str {
+    match arguments.get(i) {
+        Some(name) => name.as_str(),
+        None => "",
     }
-    file
 }
 
-// The bytes of the file that argument i names, at the start of the buffer, and how many there are.
-pub fn read_argument(i: usize, buffer: &mut [u8]) -> usize
-    ensures { IsPrefixLen result buffer.new }
+// An argument of the program, which names a file, in a line of its own.
+pub fn print_argument(rt: &impl Print, name: &str) -> io::Result<()> {
+    rt.write_all(b"== ")?;
+    rt.write_all(name.as_bytes())?;
+    rt.write_all(b"\n")
+}
+
+// The file that an argument names, open for reading. Where it is not there, a line that no case has says so, and the error goes up: it must not
+// look like an empty file.
+pub fn open_argument<R: Files + Print>(rt: &R, name: &str) -> io::Result<R::File> {
+    let opened = fs::open(rt, name);
+    if opened.is_err() {
+        rt.write_all(b"not opened\n")?;
+    }
+    opened
+}
+
+// Reads until the buffer is full or the input ends, and gives how many bytes stand at the buffer's start.
+fn read_full<R: Read>(source: &mut R, buffer: &mut [u8]) -> io::Result<usize>
+    ensures { IfOk result (λ n. IsPrefixLen n buffer.new) }
 {
-    let file = open_argument(i);
-    let n = io::read_full(file, buffer);
-    libc::close(file);
-    n
+    let mut done = 0;
+    while done < buffer.len() {
+        let n = source.read(&mut buffer[done..])?;
+        if n == 0 {
+            break;
+        }
+        done += n;
+    }
+    Ok(done)
+}
+
+// The bytes of the file that an argument names, at the start of the buffer, and how many there are.
+pub fn read_argument<R: Files + Print>(rt: &R, name: &str, buffer: &mut [u8]) -> io::Result<usize>
+    ensures { IfOk result (λ n. IsPrefixLen n buffer.new) }
+{
+    let mut file = open_argument(rt, name)?;
+    read_full(&mut file, buffer)
 }

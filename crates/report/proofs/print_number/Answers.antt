@@ -1,0 +1,7 @@
+-- A number has at most 20 digits.
+use Rattle.std.proofs.Common.{arith, rules}
+use Rattle.text.proofs.Decimal.{short_count}
+use Rattle.report.proofs.print_number.Goals as goal
+
+pub number-from-requires : goal.number-from-requires
+number-from-requires g c = (omega (arith, short_count 19 c.args.n c.args.end (omega arith)), search rules)
