@@ -6,35 +6,36 @@
 
 use journal::LONGEST_JOURNAL;
 use report::Reader;
+use std::rt::Files;
+use std::{env, io};
 
 // The listing, with buffers as clampday has them.
-fn print_listing(i: usize) {
+fn print_listing<R: Files + Print>(rt: &R, name: &str) -> io::Result<()> {
     let mut input = [0u8; LONGEST_JOURNAL];
     let mut out = [0u8; listing::ROOM];
-    let file = report::open_argument(i);
-    listing::print_listing(file, &mut input, &mut out);
-    libc::close(file);
+    let mut file = report::open_argument(rt, name)?;
+    listing::print_listing(rt, &mut file, &mut input, &mut out)
 }
 
 // All eight rows after each interval, by both readers. A byte more than clampday's buffer is read, so that what is too long is seen to be.
-fn print_all_rows(i: usize) {
+fn print_all_rows<R: Files + Print>(rt: &R, name: &str) -> io::Result<()> {
     let mut input = [0u8; LONGEST_JOURNAL + 1];
-    let n = report::read_argument(i, &mut input);
-    report::print_header();
-    report::print_journal(&input[..n], Reader::Control);
-    report::print_journal(&input[..n], Reader::Trader);
+    let n = report::read_argument(rt, name, &mut input)?;
+    report::print_header(rt)?;
+    report::print_journal(rt, &input[..n], Reader::Control)?;
+    report::print_journal(rt, &input[..n], Reader::Trader)
 }
 
-// The journal that argument i names.
-fn run_case(i: usize) {
-    report::print_argument(i);
-    print_listing(i);
-    print_all_rows(i);
+// The journal that an argument names.
+fn run_case<R: Files + Print>(rt: &R, name: &str) -> io::Result<()> {
+    report::print_argument(rt, name)?;
+    print_listing(rt, name)?;
+    print_all_rows(rt, name)
 }
 
-fn main() {
-    let count = os::arg_count();
-    for i in 1..count {
-        run_case(i);
+fn main(rt: HostRuntime) -> io::Result<()> {
+    for name in env::args(&rt)?.skip(1) {
+        run_case(&rt, name.as_str())?;
     }
+    Ok(())
 }

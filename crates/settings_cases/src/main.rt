@@ -8,44 +8,49 @@ ghost use Rattle.std.specs.Prelude.{◌≡◌, length};
 use journal::LONGEST_JOURNAL;
 use journal_rules::Found;
 use report::Reader;
+use std::rt::Files;
+use std::{env, io};
 
 // The length of settings: 44 numbers of four bytes.
 const SETTINGS: usize = 176;
 
 // All eight rows after each interval of a journal, opened with the settings.
-fn print_rows_of(settings: &[u8], bytes: &[u8])
+fn print_rows_of(rt: &impl Print, settings: &[u8], bytes: &[u8]) -> io::Result<()>
     requires { length settings.now ≡ 176 }
 {
-    report::print_header();
-    let found = report::print_found(bytes);
+    report::print_header(rt)?;
+    let found = report::print_found(rt, bytes)?;
     let Found::Journal {
         count,
         first,
         last: _,
     } = found
     else {
-        return;
+        return Ok(());
     };
     if count == 0 {
-        return;
+        return Ok(());
     }
     let opened = tracker::open_with_settings(first, [500; 6], report::settings_in(settings));
-    report::print_opened(opened, bytes, Reader::Control);
+    report::print_opened(rt, opened, bytes, Reader::Control)
 }
 
 // A case, by the arguments that name its two files.
-fn run_case(beside: usize, journal: usize) {
-    report::print_argument(journal);
+fn run_case<R: Files + Print>(rt: &R, beside: &str, journal: &str) -> io::Result<()> {
+    report::print_argument(rt, journal)?;
     let mut settings = [0u8; SETTINGS];
-    report::read_argument(beside, &mut settings);
+    report::read_argument(rt, beside, &mut settings)?;
     let mut input = [0u8; LONGEST_JOURNAL];
-    let n = report::read_argument(journal, &mut input);
-    print_rows_of(&settings, &input[..n]);
+    let n = report::read_argument(rt, journal, &mut input)?;
+    print_rows_of(rt, &settings, &input[..n])
 }
 
-fn main() {
-    let count = os::arg_count();
-    for k in 0..count / 2 {
-        run_case(2 * k + 1, 2 * k + 2);
+fn main(rt: HostRuntime) -> io::Result<()> {
+    let names: Vec<String> = env::args(&rt)?.collect(rt.alloc())?;
+    for k in 0..names.len() / 2 {
+        let beside = report::argument(&names, 2 * k + 1);
+        let journal = report::argument(&names, 2 * k + 2);
+        run_case(&rt, beside, journal)?;
     }
+    Ok(())
 }
