@@ -3,15 +3,16 @@
 
 #![tactic(auto)]
 
-ghost use Rattle.std.specs.Prelude.{◌≡◌, ◌<◌, ◌≤◌, length};
+ghost use Rattle.std.specs.Prelude.{◌≡◌, ◌<◌, ◌≤◌, length, IfOk};
 ghost use Rattle.tracker.specs.Promise.{Came};
 ghost use Rattle.calls.specs.Internal.{call_words, call_length, longest, word_of, part_end};
 
 use journal::TRAILER;
 use journal_rules::{Found, Surviving, Written};
-use libc::STDOUT_FILENO;
 use report::print_number;
 use rules::{Outcome, Tracker};
+use std::rt::Files;
+use std::{env, io};
 
 // The length of a call: 52 words of four bytes.
 const CALL: usize = 208;
@@ -33,15 +34,15 @@ fn word(call: &[u8], k: usize) -> u32
 }
 
 // For what no call of the library can be made of; no answer is like it.
-fn no_call() {
-    io::write_all(STDOUT_FILENO, b"no call\n");
+fn no_call(rt: &impl Print) -> io::Result<()> {
+    rt.write_all(b"no call\n")
 }
 
 // The number of an outcome, 0 if accepted.
-fn print_outcome(outcome: Outcome, end: u8) {
+fn print_outcome(rt: &impl Print, outcome: Outcome, end: u8) -> io::Result<()> {
     match outcome {
-        Outcome::Accepted => print_number(0, end),
-        Outcome::Refused(number) => print_number(number as u64, end),
+        Outcome::Accepted => print_number(rt, 0, end),
+        Outcome::Refused(number) => print_number(rt, number as u64, end),
     }
 }
 
@@ -90,111 +91,108 @@ fn shares(call: &[u8]) -> [u16; 6]
 }
 
 // open FIRST S0 .. S5: a refused opening too goes on with the tracker beside it.
-fn open(t: Tracker, call: &[u8]) -> Tracker
+fn open(rt: &impl Print, t: Tracker, call: &[u8]) -> io::Result<Tracker>
     requires { Came t × (length call.now ≡ call_length) }
-    ensures { Came result }
+    ensures { IfOk result Came }
 {
     if shares_fit(call) {
         let a = tracker::open(word(call, 1), shares(call));
         let outcome = a.outcome;
-        print_outcome(outcome, b'\n');
-        return a.tracker;
+        print_outcome(rt, outcome, b'\n')?;
+        return Ok(a.tracker);
     }
-    no_call();
-    t
+    no_call(rt)?;
+    Ok(t)
 }
 
 // settings FIRST S0 .. S5 and 44 numbers, from word 8 on.
-fn open_with_settings(t: Tracker, call: &[u8]) -> Tracker
+fn open_with_settings(rt: &impl Print, t: Tracker, call: &[u8]) -> io::Result<Tracker>
     requires { Came t × (length call.now ≡ call_length) }
-    ensures { Came result }
+    ensures { IfOk result Came }
 {
     if shares_fit(call) {
         let settings = report::settings_in(&call[32..CALL]);
         let a = tracker::open_with_settings(word(call, 1), shares(call), settings);
         let outcome = a.outcome;
-        print_outcome(outcome, b'\n');
-        return a.tracker;
+        print_outcome(rt, outcome, b'\n')?;
+        return Ok(a.tracker);
     }
-    no_call();
-    t
+    no_call(rt)?;
+    Ok(t)
 }
 
 // interval AT LEN
-fn interval(t: Tracker, call: &[u8], records: &[u8]) -> Tracker
+fn interval(rt: &impl Print, t: Tracker, call: &[u8], records: &[u8]) -> io::Result<Tracker>
     requires { Came t × (length call.now ≡ call_length) }
-    ensures { Came result }
+    ensures { IfOk result Came }
 {
     if part_end(call) <= records.len() {
         let a = tracker::interval(t, part(call, records));
         let outcome = a.outcome;
-        print_outcome(outcome, b'\n');
-        return a.tracker;
+        print_outcome(rt, outcome, b'\n')?;
+        return Ok(a.tracker);
     }
-    no_call();
-    t
+    no_call(rt)?;
+    Ok(t)
 }
 
 // row D
-fn row(t: Tracker, call: &[u8])
+fn row(rt: &impl Print, t: Tracker, call: &[u8]) -> io::Result<()>
     requires { Came t × (length call.now ≡ call_length) }
 {
     let a = tracker::row(t, word(call, 1) as usize);
     let outcome = a.outcome;
-    print_outcome(outcome, b',');
-    report::print_row(a.row);
+    print_outcome(rt, outcome, b',')?;
+    report::print_row(rt, a.row)
 }
 
 // Where in the journal its records lie, and their length. They are compared byte for byte with what lies before the trailer, since no
 // slice tells its place; an empty part lies nowhere, which is 0.
-fn print_place(journal: &[u8], records: &[u8]) {
+fn print_place(rt: &impl Print, journal: &[u8], records: &[u8]) -> io::Result<()> {
     let length = records.len();
     if length == 0 {
-        io::write_all(STDOUT_FILENO, b"0 0\n");
-        return;
+        return rt.write_all(b"0 0\n");
     }
     if length <= journal.len() {
         let before = journal.len() - length;
         if TRAILER <= before {
             let at = before - TRAILER;
             let end = at + length;
-            if check::same(&journal[at..end], records) {
-                print_number(at as u64, b' ');
-                print_number(length as u64, b'\n');
-                return;
+            if &journal[at..end] == records {
+                print_number(rt, at as u64, b' ')?;
+                return print_number(rt, length as u64, b'\n');
             }
         }
     }
-    io::write_all(STDOUT_FILENO, b"other\n");
+    rt.write_all(b"other\n")
 }
 
-fn print_found(journal: &[u8]) {
+fn print_found(rt: &impl Print, journal: &[u8]) -> io::Result<()> {
     let found = journal::read(journal);
     let records = journal::records(journal);
     match found {
         Found::Journal { count, first, last } => {
-            print_number(0, b' ');
-            print_number(count as u64, b' ');
-            print_number(first as u64, b' ');
-            print_number(last as u64, b' ');
+            print_number(rt, 0, b' ')?;
+            print_number(rt, count as u64, b' ')?;
+            print_number(rt, first as u64, b' ')?;
+            print_number(rt, last as u64, b' ')?;
         }
         Found::Refused(number) => {
-            print_number(number as u64, b' ');
-            io::write_all(STDOUT_FILENO, b"0 0 0 ");
+            print_number(rt, number as u64, b' ')?;
+            rt.write_all(b"0 0 0 ")?;
         }
     }
-    print_place(journal, records);
+    print_place(rt, journal, records)
 }
 
 // read AT LEN
-fn read(call: &[u8], records: &[u8])
+fn read(rt: &impl Print, call: &[u8], records: &[u8]) -> io::Result<()>
     requires { length call.now ≡ call_length }
 {
     if part_end(call) <= records.len() {
-        print_found(part(call, records));
-        return;
+        return print_found(rt, part(call, records));
     }
-    no_call();
+    no_call(rt)
 }
 
 // The sum of (i + 1) × byte i, modulo 2^32: it tells a changed byte and a moved one.
@@ -211,33 +209,33 @@ fn weighted_sum(bytes: &[u8]) -> u64
 }
 
 // What a call answers that is lent a buffer: the number, 0 if accepted, how much it gives, and all bytes of the buffer afterwards.
-fn print_lent(number: u8, given: usize, out: &[u8])
+fn print_lent(rt: &impl Print, number: u8, given: usize, out: &[u8]) -> io::Result<()>
     requires { length out.now ≤ longest }
 {
-    print_number(number as u64, b' ');
-    print_number(given as u64, b' ');
-    print_number(weighted_sum(out), b'\n');
+    print_number(rt, number as u64, b' ')?;
+    print_number(rt, given as u64, b' ')?;
+    print_number(rt, weighted_sum(out), b'\n')
 }
 
 // The journal of these records, written into the buffer.
-fn print_written(records: &[u8], out: &mut [u8])
+fn print_written(rt: &impl Print, records: &[u8], out: &mut [u8]) -> io::Result<()>
     requires { length out.old ≤ longest }
 {
     let written = journal::write(records, out);
     match written {
-        Written::Bytes(n) => print_lent(0, n, out),
-        Written::Refused(number) => print_lent(number, 0, out),
+        Written::Bytes(n) => print_lent(rt, 0, n, out),
+        Written::Refused(number) => print_lent(rt, number, 0, out),
     }
 }
 
 // The survivors of this journal (N7), written into the buffer.
-fn print_survivors(journal: &[u8], out: &mut [u8])
+fn print_survivors(rt: &impl Print, journal: &[u8], out: &mut [u8]) -> io::Result<()>
     requires { length out.old ≤ longest }
 {
     let given = journal::survivors(journal, out);
     match given {
-        Surviving::Records(count) => print_lent(0, count as usize, out),
-        Surviving::Refused(number) => print_lent(number, 0, out),
+        Surviving::Records(count) => print_lent(rt, 0, count as usize, out),
+        Surviving::Refused(number) => print_lent(rt, number, 0, out),
     }
 }
 
@@ -249,76 +247,78 @@ fn filled() -> [u8; LONGEST]
 }
 
 // A call that is lent a buffer of this length: a write of records, or else the second call on a journal (N7).
-fn lend(kind: u32, bytes: &[u8], room: usize)
+fn lend(rt: &impl Print, kind: u32, bytes: &[u8], room: usize) -> io::Result<()>
     requires { room ≤ longest }
 {
     let mut out = filled();
     if kind == WRITE {
-        print_written(bytes, &mut out[..room]);
+        print_written(rt, bytes, &mut out[..room])
     } else {
-        print_survivors(bytes, &mut out[..room]);
+        print_survivors(rt, bytes, &mut out[..room])
     }
 }
 
 // write AT LEN ROOM; survivors AT LEN ROOM
-fn call_with_buffer(call: &[u8], records: &[u8])
+fn call_with_buffer(rt: &impl Print, call: &[u8], records: &[u8]) -> io::Result<()>
     requires { length call.now ≡ call_length }
 {
     let room = word(call, 3) as usize;
     if LONGEST < room {
-        no_call();
-        return;
+        return no_call(rt);
     }
     if part_end(call) <= records.len() {
-        lend(word(call, 0), part(call, records), room);
-        return;
+        return lend(rt, word(call, 0), part(call, records), room);
     }
-    no_call();
+    no_call(rt)
 }
 
 // One call, by its kind. What may change the tracker gives the next one.
-fn run_call(t: Tracker, call: &[u8], records: &[u8]) -> Tracker
+fn run_call(rt: &impl Print, t: Tracker, call: &[u8], records: &[u8]) -> io::Result<Tracker>
     requires { Came t × (length call.now ≡ call_length) }
-    ensures { Came result }
+    ensures { IfOk result Came }
 {
     match word(call, 0) {
-        0 => return open(t, call),
-        1 => return open_with_settings(t, call),
-        2 => return interval(t, call, records),
-        7 => row(t, call),
-        8 => read(call, records),
-        WRITE | SURVIVORS => call_with_buffer(call, records),
-        _ => no_call(),
+        0 => return open(rt, t, call),
+        1 => return open_with_settings(rt, t, call),
+        2 => return interval(rt, t, call, records),
+        7 => row(rt, t, call)?,
+        8 => read(rt, call, records)?,
+        WRITE | SURVIVORS => call_with_buffer(rt, call, records)?,
+        _ => no_call(rt)?,
     }
-    t
+    Ok(t)
 }
 
 // The calls of a script in their turn. Before any opening stands the tracker of one at 0 with all shares 0.
-fn run(calls: &[u8], records: &[u8]) {
+fn run(rt: &impl Print, calls: &[u8], records: &[u8]) -> io::Result<()> {
     let opened = tracker::open(0, [0; 6]);
     let mut now = opened.tracker;
     let mut at = 0;
     while calls.len() - at >= CALL {
         let end = at + CALL;
-        let next = run_call(now, &calls[at..end], records);
+        let next = run_call(rt, now, &calls[at..end], records)?;
         now = next;
         at = end;
     }
+    Ok(())
 }
 
 // A script, by the arguments that name its two files.
-fn run_script(script: usize, beside: usize) {
-    report::print_argument(script);
+fn run_script<R: Files + Print>(rt: &R, script: &str, beside: &str) -> io::Result<()> {
+    report::print_argument(rt, script)?;
     let mut calls = [0u8; LONGEST];
-    let n = report::read_argument(script, &mut calls);
+    let n = report::read_argument(rt, script, &mut calls)?;
     let mut records = [0u8; LONGEST];
-    let m = report::read_argument(beside, &mut records);
-    run(&calls[..n], &records[..m]);
+    let m = report::read_argument(rt, beside, &mut records)?;
+    run(rt, &calls[..n], &records[..m])
 }
 
-fn main() {
-    let count = os::arg_count();
-    for k in 0..count / 2 {
-        run_script(2 * k + 1, 2 * k + 2);
+fn main(rt: HostRuntime) -> io::Result<()> {
+    let names: Vec<String> = env::args(&rt)?.collect(rt.alloc())?;
+    for k in 0..names.len() / 2 {
+        let script = report::argument(&names, 2 * k + 1);
+        let beside = report::argument(&names, 2 * k + 2);
+        run_script(&rt, script, beside)?;
     }
+    Ok(())
 }
