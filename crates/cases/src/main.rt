@@ -14,7 +14,7 @@ fn print_listing<R: Files + Print>(rt: &R, name: &str) -> io::Result<()> {
     let mut input = [0u8; LONGEST_JOURNAL];
     let mut out = [0u8; listing::ROOM];
     let mut file = report::open_argument(rt, name)?;
-    listing::print_listing(rt, &mut file, &mut input, &mut out)
+    listing::print_listing(&mut file, &mut input, &mut out, &mut io::writer(rt))
 }
 
 // All eight rows after each interval, by both readers. A byte more than clampday's buffer is read, so that what is too long is seen to be.

@@ -8,5 +8,5 @@ fn main(rt: HostRuntime) -> io::Result<()> {
     let mut input = [0u8; 65536];
     // No larger than is asked for: it is zeroed first.
     let mut out = [0u8; listing::ROOM];
-    listing::print_listing(&rt, &mut rt.stdin(), &mut input, &mut out)
+    listing::print_listing(&mut rt.stdin(), &mut input, &mut out, &mut rt.stdout())
 }

@@ -1,7 +1,7 @@
 -- Document 01, `clampday`: the listing of its input, line by line, from the opening and the surviving records (N7) alone. Nothing here reads a
 -- tracker.
 -- A read's variant Refused is NotRead here.
-use Rattle.std.specs.Prelude.{Bool, cond, ℕ, ◌+◌, ◌*◌, replicate}
+use Rattle.std.specs.Prelude.{◌≡◌, Bool, cond, ℕ, ◌+◌, ◌*◌, ◌≤◌, nat_lt, length, take, replicate}
 use mathlib.Core.List.{List, [], ◌∷◌, ◌++◌, map, flatten}
 use Rattle.std.proofs.Math.Option.{Option, none, some}
 use Rattle.text.specs.Ascii.{ascii}
@@ -83,9 +83,17 @@ lines_of input more = header ∷ input_lines input more
 abbrev pub listing_of : List ℕ → Bool → List ℕ
 listing_of input more = flatten (lines_of input more)
 
+-- The listing of all bytes of an input, read into a buffer that has room for so many of them.
+abbrev pub listing_in : ℕ → List ℕ → List ℕ
+listing_in room bytes = listing_of (take room bytes) (nat_lt room (length bytes))
+
 -- No line is longer than 95 bytes, and no listing than the header's 62 and 288 times eight lines.
 abbrev pub longest_line : ℕ
 longest_line = 95
 
 abbrev pub longest_listing : ℕ
 longest_listing = 62 + most_records * (8 * longest_line)
+
+-- The first n bytes of a buffer are n bytes: they lie within it.
+abbrev pub IsPrefixLen : ℕ → List ℕ → Type 0
+IsPrefixLen n xs = (n ≤ length xs) × (n ≡ length (take n xs))

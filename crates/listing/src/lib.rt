@@ -3,9 +3,10 @@
 
 #![tactic(auto)]
 
-ghost use Rattle.std.specs.Prelude.{true, ◌≡◌, ℕ, ◌+◌, ◌<◌, ◌≤◌, length, IfOk};
+ghost use Rattle.std.specs.Prelude.{true, ◌≡◌, ℕ, ◌+◌, ◌<◌, ◌≤◌, length, take, IfOk, OnOk, IfSome};
 ghost use mathlib.Core.List.{List, map, flatten};
-ghost use Rattle.io.specs.Counts.{IsPrefixLen};
+ghost use Rattle.std.specs.Io.{ReadsAtMost};
+ghost use Rattle.std.specs.Io.KnownBytes.{Appends, Consumes, IsAtEnd};
 ghost use Rattle.words.specs.Buffer.{over, Room, RoomBefore, Puts};
 ghost use Rattle.text.specs.Text.{number_cell};
 ghost use Rattle.tracker.specs.Promise.{Came, Opening, RowBounds, run, of_directions, worked_from};
@@ -13,17 +14,17 @@ ghost use Rattle.journal_rules.specs.Journal.{in_order};
 ghost use Rattle.journal_rules.specs.Survivors.{survivors};
 ghost use Rattle.listing.specs.Line.{comma, mark, name_of, amounts_of, line_of, listed_of};
 ghost use Rattle.listing.specs.Internal.{kept_names, row_text, EightBounded};
-ghost use Rattle.listing.specs.Listing.{ended_by, opened_lines, record_lines, body_lines, input_lines, listing_of, longest_listing};
+ghost use Rattle.listing.specs.Listing.{ended_by, opened_lines, record_lines, body_lines, input_lines, listing_of, listing_in, longest_listing, IsPrefixLen};
 
 use journal_rules::Found;
 use rules::{Outcome, RECORD, Row, Tracker};
 use std::io;
-use std::io::Read;
+use std::io::{Read, Write};
 
-// How long the longest listing is, `longestListing`: a header and 288 intervals of eight lines. A buffer needs no more.
+// How long the longest listing is, `longest_listing`: a header and 288 intervals of eight lines. A buffer needs no more.
 pub const ROOM: usize = 218942;
 
-// How long the longest line is, `longestLine`, newline included.
+// How long the longest line is, `longest_line`, newline included.
 const LONGEST_LINE: usize = 95;
 
 // Of the names, ten bytes apart, direction d's with its comma: those of directions 4 to 7 are a byte shorter. Each width is written out,
@@ -263,13 +264,15 @@ pub fn listing(input: &[u8], more: bool, out: &mut [u8]) -> usize
 
 // Reads until the buffer is full or the input ends, and gives how many bytes stand at the buffer's start.
 pub fn read_full<R: Read>(source: &mut R, buffer: &mut [u8]) -> io::Result<usize>
-    ensures { IfOk result (λ n. IsPrefixLen n buffer.new) }
+    ensures bound { ReadsAtMost result buffer.new }
+    ensures bytes { IfOk result (λ n. Consumes (R.remaining source.old) (R.remaining source.new) (take n buffer.new)) }
+    ensures end { IfOk result (λ n. n < length buffer.new → IsAtEnd (R.remaining source.new)) }
 {
     let mut done = 0;
     while done < buffer.len() {
         let n = source.read(&mut buffer[done..])?;
         if n == 0 {
-            break;
+            return Ok(done);
         }
         done += n;
     }
@@ -277,17 +280,19 @@ pub fn read_full<R: Read>(source: &mut R, buffer: &mut [u8]) -> io::Result<usize
 }
 
 // Reads a journal into one lent buffer, and whether more follows; lists it in the other, and prints that.
-pub fn print_listing<R: Read>(
-    rt: &impl Print,
+pub fn print_listing<R: Read, W: Write>(
     source: &mut R,
     input: &mut [u8],
     out: &mut [u8],
+    sink: &mut W,
 ) -> io::Result<()>
     requires { longest_listing ≤ length out.old }
+    ensures { OnOk result (IfSome (R.remaining source.old) (λ xs.
+        Appends (W.contents sink.old) (W.contents sink.new) (listing_in (length input.old) xs))) }
 {
     let mut beyond = [0u8; 1];
     let n = read_full(source, input)?;
     let more = read_full(source, &mut beyond)? != 0;
     let k = listing(&input[..n], more, out);
-    rt.write_all(&out[..k])
+    sink.write_all(&out[..k])
 }

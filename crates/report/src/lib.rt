@@ -3,15 +3,14 @@
 
 #![tactic(auto)]
 
-ghost use Rattle.std.specs.Prelude.{◌≡◌, ◌+◌, ◌*◌, ◌<◌, ◌≤◌, nat_abs, length, IfOk};
-ghost use Rattle.io.specs.Counts.{IsPrefixLen};
+ghost use Rattle.std.specs.Prelude.{◌≡◌, ◌+◌, ◌*◌, ◌<◌, ◌≤◌, nat_abs, length};
+ghost use Rattle.std.specs.Io.{ReadsAtMost};
 ghost use Rattle.tracker.specs.Promise.{Came, RowBounds, WithinHalfCent, highest_sum};
 ghost use Rattle.readers.specs.Views.{row_shown};
 
 use journal_rules::{Found, Surviving};
 use readers::{ControlView, TraderView};
 use rules::{Answer, DirectionSettings, Outcome, Period, RECORD, Row, Settings, Tracker};
-use std::io::Read;
 use std::rt::Files;
 use std::{fs, io};
 use units::{Cents, Grains, Hundredths};
@@ -349,25 +348,10 @@ pub fn open_argument<R: Files + Print>(rt: &R, name: &str) -> io::Result<R::File
     opened
 }
 
-// Reads until the buffer is full or the input ends, and gives how many bytes stand at the buffer's start.
-fn read_full<R: Read>(source: &mut R, buffer: &mut [u8]) -> io::Result<usize>
-    ensures { IfOk result (λ n. IsPrefixLen n buffer.new) }
-{
-    let mut done = 0;
-    while done < buffer.len() {
-        let n = source.read(&mut buffer[done..])?;
-        if n == 0 {
-            break;
-        }
-        done += n;
-    }
-    Ok(done)
-}
-
 // The bytes of the file that an argument names, at the start of the buffer, and how many there are.
 pub fn read_argument<R: Files + Print>(rt: &R, name: &str, buffer: &mut [u8]) -> io::Result<usize>
-    ensures { IfOk result (λ n. IsPrefixLen n buffer.new) }
+    ensures { ReadsAtMost result buffer.new }
 {
     let mut file = open_argument(rt, name)?;
-    read_full(&mut file, buffer)
+    listing::read_full(&mut file, buffer)
 }

@@ -2,10 +2,9 @@
 use Rattle.std.proofs.Common.{◌≡◌, refl, ap, sym, ◌∙◌, List, [], ◌∷◌, ◌++◌, Bool, ℕ, ◌≤◌, length, take, drop, length-append, arith}
 use mathlib.Core.List.{flatten}
 use lib.Seq.{take-append_seam}
-use Rattle.io.specs.Counts.{IsPrefixLen}
 use Rattle.words.specs.Buffer.{over}
 use Rattle.words.proofs.Parts.{Left, begin_two, room, next, finish, at_start}
-use Rattle.listing.specs.Listing.{header, input_lines, lines_of, listing_of, longest_listing}
+use Rattle.listing.specs.Listing.{header, input_lines, lines_of, listing_of, longest_listing, IsPrefixLen}
 use Rattle.listing.proofs.ListingLength.{listing_short}
 use Rattle.listing.proofs.listing.Goals as goal
 
