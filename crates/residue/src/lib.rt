@@ -204,6 +204,7 @@ pub fn loop_sum(r: [Residue; 8]) -> Cents
 }
 
 // The loop flag: false for a direction of the loop while the loop operates and its residues sum to zero or more.
+#[tactic(auto, unfolding(rules::specs::Interval::flag_of))]
 pub fn flag(operating: bool, sum: Cents, d: usize) -> bool
     ensures { result ≡ flag_of operating sum d }
 {

@@ -1,24 +1,16 @@
--- How far rounding can carry (N9), after every opening and list of calls, and in other words.
+-- How far rounding can carry (N9), in other words: of an amount of which the bound holds after an opening and a list of calls.
 -- Assumes nothing.
-use mathlib.Core.Path.{◌≡◌, sym, ap, subst}
+use mathlib.Core.Path.{◌≡◌, ap}
 use mathlib.Core.List.{List, []}
-use Prim.Native.Nat.{ℕ, ◌*◌, ◌≤◌, ◌<◌}
+use Prim.Native.Nat.{ℕ, ◌*◌, ◌≤◌}
 use native.Mathlib.Omega.{arith}
 use lib.IntN.{pos, nat_abs, ◌-ℤ◌, ◌*ℤ◌}
 use lib.ListN.{length}
 use Rattle.units.specs.declared.Cents.{Cents}
 use Rattle.units.specs.Units.{cents, grains}
-use Rattle.rules.specs.Rounding.{span, assigned_of, unrounded, Rounding, RoundingFrom}
-use Rattle.rules.specs.Tracker.{Opening, shares_of, row_of, run}
-use Rattle.rules.specs.Claim.{accepted, history}
-use Rattle.rules.proofs.Demand.{demand3}
-use Rattle.rules.proofs.Rounding.{direction_rounding}
-
--- For every opening and list of calls, of the amount of each direction's row.
-pub rounding_from : (o : Opening) (calls : List (List ℕ)) (d : ℕ) → d < 8 → RoundingFrom o calls d (row_of (run o calls) d).amount
-unfolding history
-rounding_from o calls d below =
-    subst (Rounding (shares_of o) d (accepted o calls)) (sym ((demand3 o calls).each d below).sum) (direction_rounding (shares_of o) d (accepted o calls))
+use Rattle.rules.specs.Rounding.{span, assigned_of, unrounded, RoundingFrom}
+use Rattle.rules.specs.Tracker.{Opening, shares_of}
+use Rattle.rules.specs.Claim.{accepted}
 
 -- Of an amount of which both parts hold:
 module _ (o : Opening) (calls : List (List ℕ)) {d : ℕ} {amount : Cents} (both : RoundingFrom o calls d amount) where

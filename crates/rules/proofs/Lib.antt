@@ -24,6 +24,7 @@ pub mod UnreadIssue
 pub mod TakenNumbers
 pub mod SettingsRefused
 pub mod Demand
+pub mod RoundingDemand
 pub mod ByRounding
 pub mod Came
 pub mod ByClaim

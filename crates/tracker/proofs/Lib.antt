@@ -2,3 +2,4 @@
 pub mod Promise
 mod Opening
 mod Advance
+mod Shares

@@ -17,6 +17,7 @@ use step::Terms;
 use units::{Cents, Grains, Hundredths};
 
 // Is no share above 1000?
+#[tactic(auto, using(crate::proofs::Shares::no_share, crate::proofs::Shares::share_passes, crate::proofs::Shares::share_fails))]
 fn shares_ok(shares: [u16; 6]) -> bool
     ensures { result ≡ each 6 (share_ok shares) }
 {

@@ -18,12 +18,12 @@ loop-d-init c = record { within = omega arith; length_kept = refl; left = begin 
 
 pub row_line-e-requires : goal.row_line-e-requires
 row_line-e-requires c =
-    let h : c.loop-d.d < 8 = c.loop-d-test.true in
+    let h : c.loop-d.d < 8 = omega arith in
     (c.requires.0.bounded c.loop-d.d h, room (own c.args.all c.requires.0 c.loop-d.d h c.loop-d.invariant.left))
 
 pub loop-d-preserved : goal.loop-d-preserved
 loop-d-preserved c =
-    let h : c.loop-d.d < 8 = c.loop-d-test.true in
+    let h : c.loop-d.d < 8 = omega arith in
     record {
       within = omega arith;
       length_kept = omega (arith, c.row_line-e.auto.out, c.loop-d.invariant.length_kept);

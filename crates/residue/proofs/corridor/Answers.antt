@@ -14,7 +14,7 @@ plus-sum-requires c =
     let r = c.corridor_at-at.result in
     let few : c.loop-j.j ≤ 2 = omega (arith, c.loop-j-test.true, c.corridor_at-at.ensures.few) in
     let i = r.first + c.loop-j.j in
-    let small : nat_abs c.grains.result.0 ≤ highest_grains = rw c.grains.ensures (line_small (line_in_range c.requires.1 r.to r.from i)) in
+    let small : nat_abs c.grains.result.0 ≤ highest_grains = rw c.grains.ensures (line_small (line_in_range c.requires.1 _ _ i)) in
     sum_fits c.loop-j.sum.0 c.grains.result.0
     (omega (arith, small, grains_so_far c.requires.1 r.to r.from r.first c.loop-j.j few c.loop-j.sum c.loop-j.invariant.grains_are))
 

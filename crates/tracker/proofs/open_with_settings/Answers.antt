@@ -1,5 +1,5 @@
 -- Each return is under its condition, and what it brings with it is the claim of the empty list.
-use Rattle.std.proofs.Common.{◌≡◌, refl, sym, ap, ◌∙◌, not, true, List, ℕ, ◌%◌, ◌≤◌}
+use Rattle.std.proofs.Common.{arith, ◌≡◌, refl, sym, ap, ◌∙◌, not, true, List, ℕ, ◌%◌, ◌≤◌}
 use Rattle.rules.specs.declared.Answer.{Answer}
 use Rattle.rules.specs.declared.Settings.{Settings}
 use Rattle.rules.specs.declared.Outcome.TheVariants.{Accepted, Refused}
@@ -53,8 +53,9 @@ pub returns-then-first-ne0 : goal.returns-then-first-ne0
 unfolding open_conditions
 returns-then-first-ne0 c =
     let a = c.args in
+    let misplaced : a.first % 6 ≡ 0 → ⊥ = omega arith in
     with_number a.first a.shares a.settings
-    (refused_at 0 (untested {cs = conditions a.first a.shares a.settings}) (rw (le-ltb _ _ c.if-first-gt-HIGHEST_NUMBER.false, ne_eqb (a.first % 6) 0 c.if-first-ne0.true)))
+    (refused_at 0 (untested {cs = conditions a.first a.shares a.settings}) (rw (le-ltb _ _ c.if-first-gt-HIGHEST_NUMBER.false, ne_eqb (a.first % 6) 0 misplaced)))
     c.refused_opening-then-first-ne0.ensures
 
 pub returns-then-not-shares_ok : goal.returns-then-not-shares_ok
