@@ -109,23 +109,26 @@ def main(words):
     for path in sorted(glob.glob(os.path.join(root, "crates/*/must-fail/*.edit"))):
         with open(path, encoding="utf-8") as f:
             edit = f.read()
-        file = re.search(r"^file: (.*)$", edit, re.M).group(1)
-        with open(os.path.join(os.path.dirname(os.path.dirname(path)), file), encoding="utf-8") as f:
-            text = f.read()
-        out, missed = ["file: " + file], []
-        for old, new in re.findall(r"^old: (.*)\nnew: (.*)$", edit, re.M):
-            if file.endswith(".antt"):
+        texts, out, missed = {}, [], []
+        for file, old, new in re.findall(r"^file: (.*)$|^old: (.*)\nnew: (.*)$", edit, re.M):
+            if file:
+                at = file
+                with open(os.path.join(os.path.dirname(os.path.dirname(path)), at), encoding="utf-8") as f:
+                    texts.setdefault(at, f.read())
+                out.append("file: " + at)
+                continue
+            if at.endswith(".antt"):
                 old, new = respelled(old, pattern, names), respelled(new, pattern, names)
-            if text.count(old) != 1:
-                old, new = import_of(old, new, text)
+            if texts[at].count(old) != 1:
+                old, new = import_of(old, new, texts[at])
             if old is None:
                 continue
-            if text.count(old) != 1:
-                missed.append((text.count(old), old))
-            text = text.replace(old, new)
+            if texts[at].count(old) != 1:
+                missed.append((texts[at].count(old), at, old))
+            texts[at] = texts[at].replace(old, new)
             out += ["old: " + old, "new: " + new]
-        for times, old in missed:
-            print("%s: stands %d times in %s: %s" % (os.path.relpath(path, root), times, file, old))
+        for found in missed:
+            print("%s: stands %d times in %s: %s" % (os.path.relpath(path, root), *found))
         left += bool(missed)
         if not missed and out != edit.rstrip("\n").split("\n"):
             turned += 1
