@@ -314,11 +314,16 @@ fn run_script<R: Files + Print>(rt: &R, script: &str, beside: &str) -> io::Resul
 }
 
 fn main(rt: HostRuntime) -> io::Result<()> {
-    let names: Vec<String> = env::args(&rt)?.collect(rt.alloc())?;
-    for k in 0..names.len() / 2 {
-        let script = report::argument(&names, 2 * k + 1);
-        let beside = report::argument(&names, 2 * k + 2);
-        run_script(&rt, script, beside)?;
+    let mut first: Option<String> = None;
+    for name in env::args(&rt)?.skip(1) {
+        match first.take() {
+            Some(script) => run_script(&rt, script.as_str(), name.as_str())?,
+            None => first = Some(name),
+        }
     }
-    Ok(())
+    // A script alone: no file has an empty name.
+    match first {
+        Some(script) => run_script(&rt, script.as_str(), ""),
+        None => Ok(()),
+    }
 }

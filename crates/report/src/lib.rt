@@ -323,14 +323,6 @@ pub fn settings_in(bytes: &[u8]) -> Settings
     }
 }
 
-// Argument i of the program, whose own name is argument 0. Where there is none, it is empty, which no file is called.
-pub fn argument(arguments: &[String], i: usize) -> &str {
-    match arguments.get(i) {
-        Some(name) => name.as_str(),
-        None => "",
-    }
-}
-
 // An argument of the program, which names a file, in a line of its own.
 pub fn print_argument(rt: &impl Print, name: &str) -> io::Result<()> {
     rt.write_all(b"== ")?;

@@ -46,11 +46,16 @@ fn run_case<R: Files + Print>(rt: &R, beside: &str, journal: &str) -> io::Result
 }
 
 fn main(rt: HostRuntime) -> io::Result<()> {
-    let names: Vec<String> = env::args(&rt)?.collect(rt.alloc())?;
-    for k in 0..names.len() / 2 {
-        let beside = report::argument(&names, 2 * k + 1);
-        let journal = report::argument(&names, 2 * k + 2);
-        run_case(&rt, beside, journal)?;
+    let mut first: Option<String> = None;
+    for name in env::args(&rt)?.skip(1) {
+        match first.take() {
+            Some(beside) => run_case(&rt, beside.as_str(), name.as_str())?,
+            None => first = Some(name),
+        }
     }
-    Ok(())
+    // Settings alone: no file has an empty name.
+    match first {
+        Some(beside) => run_case(&rt, beside.as_str(), ""),
+        None => Ok(()),
+    }
 }
