@@ -21,7 +21,7 @@ counted_records (Journal count first last) s =
 counted_records (Refused k) s = []
 
 -- Record i is issued again: the next one has the same n. In records that are in order this says that it is superseded (proofs/Order
--- `next-tells`).
+-- `next_tells`).
 abbrev pub issued_again : List ℕ → ℕ → Bool
 issued_again r i = ltb (i + 1) (record_count r) && eqb (number_at r (i + 1)) (number_at r i)
 

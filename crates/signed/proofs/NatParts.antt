@@ -169,7 +169,7 @@ pub abs_is : (a : ℤ) → (up a ≤ nat_abs a + dn a) × (dn a ≤ nat_abs a + 
 abs_is (pos n) = omega arith
 abs_is (negsuc n) = omega arith
 
--- a range that was tested: `passed lo hi z (sym c.price-ok.ensures ∙ c.if1.taken)`
+-- a range that was tested
 pub passed : (lo hi z : ℤ) → within lo hi z ≡ true → Within lo hi z
 passed lo hi z e =
     let t = and_yes (le_z lo z) (le_z z hi) (truth (within lo hi z) e) in

@@ -136,7 +136,7 @@ row_direction {d = d} came row l =
     let calls = came.calls in
     ap (λ (x : Row). x.direction) (row.claim o calls came.is (omega arith)).is_worked ∙ worked_direction (settings_of o) (first_of o) d (history o d (accepted o calls))
 
--- After an accepted call a row has the n that was awaited. (The next awaited number is one more: awaits-one-more.)
+-- After an accepted call a row has the n that was awaited. (The next awaited number is one more: `awaits_one_more`.)
 pub row_number : {t : Tracker} {b : List ℕ} {a : Answer} {d : ℕ} {r : RowAnswer} (o : Opening) (calls : List (List ℕ))
     → t ≡ run o calls
     → IntervalPromise t b a

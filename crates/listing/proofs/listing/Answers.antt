@@ -26,7 +26,7 @@ put_bytes-e-requires c = let a = c.args in room (left a.input.now a.more a.out.n
 
 pub input_lines-requires : goal.input_lines-requires
 unfolding header
-input_lines-requires c = let a = c.args in room (next (left a.input.now a.more a.out.now c.requires) c.put_bytes-e.ensures)
+input_lines-requires c = let a = c.args in room (next (left a.input.now _ a.out.now c.requires) c.put_bytes-e.ensures)
 
 pub returns : goal.returns
 unfolding header

@@ -1,5 +1,5 @@
 -- One digit in the lower byte, the other in the higher.
-use Rattle.std.proofs.Common.{List, [], ◌∷◌, ◌≡◌, ℕ, ◌+◌, ◌*◌, ◌/◌, ◌%◌, ◌<◌, arith}
+use Rattle.std.proofs.Common.{ap, length, List, [], ◌∷◌, ◌≡◌, ℕ, ◌+◌, ◌*◌, ◌/◌, ◌%◌, ◌<◌, arith}
 use Rattle.words.specs.Buffer.{Room}
 use Rattle.words.proofs.Parts.{Left, begin_two, room, next, finish, same_byte}
 use Rattle.text.specs.Internal.{padded}
@@ -26,8 +26,7 @@ pub put_byte-e-requires : goal.put_byte-e-requires
 put_byte-e-requires c = room (left c.args.n c.args.at c.args.out.now c.requires.0 c.requires.1)
 
 pub put_byte-requires : goal.put_byte-requires
-put_byte-requires c =
-    room (next (left c.args.n c.args.at c.args.out.now c.requires.0 c.requires.1) (same_byte (lower c.args.n c.requires.0) c.put_byte-e.ensures))
+put_byte-requires c = omega (arith, c.put_byte-e.ensures.place, c.put_byte-e.auto.out, c.requires.1, ap length (padded_two c.args.n c.requires.0))
 
 pub returns : goal.returns
 returns c =
