@@ -6,13 +6,6 @@ unfoldable pub use Rattle.tracker.specs.Promise.{u32_at}
 abbrev pub call_words : ℕ
 call_words = 52
 
-abbrev pub call_length : ℕ
-call_length = 208
-
--- more than any script, and any buffer that it writes to, is long
-abbrev pub longest : ℕ
-longest = 131072
-
 abbrev pub word_of : List ℕ → ℕ → ℕ
 word_of call k = u32_at call (4 * k)
 

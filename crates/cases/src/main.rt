@@ -5,7 +5,6 @@
 #![tactic(auto)]
 
 use journal::LONGEST_JOURNAL;
-use report::Reader;
 use std::rt::Files;
 use std::{env, io};
 
@@ -17,13 +16,15 @@ fn print_listing<R: Files + Print>(rt: &R, name: &str) -> io::Result<()> {
     listing::print_listing(&mut file, &mut input, &mut out, &mut io::writer(rt))
 }
 
-// All eight rows after each interval, by both readers. A byte more than clampday's buffer is read, so that what is too long is seen to be.
+// All eight rows after each interval, opened as clampday opens a journal, by both readers. A byte more than clampday's buffer is read, so that
+// what is too long is seen to be.
 fn print_all_rows<R: Files + Print>(rt: &R, name: &str) -> io::Result<()> {
     let mut input = [0u8; LONGEST_JOURNAL + 1];
-    let n = report::read_argument(rt, name, &mut input)?;
+    let journal = report::read_argument(rt, name, &mut input)?;
+    let open = |first| tracker::open(first, [500; 6]);
     report::print_header(rt)?;
-    report::print_journal(rt, &input[..n], Reader::Control)?;
-    report::print_journal(rt, &input[..n], Reader::Trader)
+    report::print_journal(rt, journal, open, |row| report::print_row(rt, row))?;
+    report::print_journal(rt, journal, open, |row| report::print_for_trader(rt, row))
 }
 
 // The journal that an argument names.

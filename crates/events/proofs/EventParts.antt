@@ -5,6 +5,7 @@ use mathlib.Core.List.{List}
 use mathlib.Core.Path.{◌≡◌, refl, ap, ◌∙◌}
 use Prim.Native.Nat.{ℕ, ◌≤◌, ◌<◌}
 use native.Mathlib.Nat.{le_trans}
+use denote.Ref.{Bor}
 use lib.Dec.{lit≤}
 use lib.ListN.{get_or, replicate}
 use Rattle.units.specs.declared.Cents.{Cents}
@@ -13,22 +14,21 @@ use Rattle.rules.specs.declared.Residue.{Residue}
 use Rattle.rules.specs.Residue.{no_residue}
 use Rattle.rules.specs.Interval.{loop_sum, flag_of, next_of}
 use Rattle.rules.specs.Market.{of_directions}
-use Rattle.rules.specs.Record.{record_number, operating, present, of_regions, of_lines, prices, lines, pre_dispatch_prices, pre_dispatch_lines, residue, event_of}
+use Rattle.rules.specs.Record.{record_number, operating, present, prices, lines, pre_dispatch_prices, pre_dispatch_lines, residue, pre_dispatch_residue, event_of}
 use Rattle.rules.proofs.Accepted.{Sound, accepted_is}
-use Rattle.rules.proofs.Directions.{at_direction}
+use Rattle.rules.proofs.Directions.{at_direction, same_directions}
 use Rattle.rules.proofs.Laws.{next_law}
 use Rattle.rules.proofs.RecordRanges.{Ranged, interval_ranged, pre_dispatch_ranged}
-use Rattle.record.specs.Internal.{Whole, header, price_of, line_of}
+use Rattle.record.specs.declared.Header.{Header}
+use Rattle.record.specs.Internal.{header}
 use Rattle.residue.specs.Internal.{InRange, highest_a, highest_b}
 use Rattle.residue.proofs.ResidueArray.{at, loop_sum_is}
-use Rattle.events.specs.Internal.{Readable, residue_in, pre_dispatch_of, event_from}
+use Rattle.events.specs.declared.Parts.{Parts}
+use Rattle.events.specs.Internal.{Readable, pre_dispatch_of, event_from}
 
 module _ {shares b : List ℕ} (r : Readable shares b) where
   sound : Sound (record_number b) b
   sound = accepted_is (record_number b) b r.accepted
-
-  pub whole : Whole b
-  whole = sound.whole
 
   in_range : {p : List Cents} {l : List Line} {A B : ℕ} → A ≤ highest_a → B ≤ highest_b → Ranged p l A B → InRange p shares l
   in_range h k w = record {
@@ -39,10 +39,11 @@ module _ {shares b : List ℕ} (r : Readable shares b) where
   }
 
   -- of the interval and of the pre-dispatch half-hour
-  pub all_in_range : (pre_dispatch : Bool) → InRange (of_regions (price_of pre_dispatch b)) shares (of_lines (line_of pre_dispatch b))
-  unfolding prices lines pre_dispatch_prices pre_dispatch_lines
-  all_in_range false = in_range (lit≤ tt) (lit≤ tt) (interval_ranged (record_number b) b sound)
-  all_in_range true = in_range (lit≤ tt) (lit≤ tt) (pre_dispatch_ranged (record_number b) b sound)
+  pub interval_in_range : InRange (prices b) shares (lines b)
+  interval_in_range = in_range (lit≤ tt) (lit≤ tt) (interval_ranged (record_number b) b sound)
+
+  pub pre_dispatch_in_range : InRange (pre_dispatch_prices b) shares (pre_dispatch_lines b)
+  pre_dispatch_in_range = in_range (lit≤ tt) (lit≤ tt) (pre_dispatch_ranged (record_number b) b sound)
 
 -- without pre-dispatch its residues count for nothing
 next_is : (flag : Bool) (n : ℕ) (p : Bool) (pre_dispatch : ℕ → Residue) (d : ℕ) → d < 8
@@ -50,19 +51,27 @@ next_is : (flag : Bool) (n : ℕ) (p : Bool) (pre_dispatch : ℕ → Residue) (d
 next_is flag n true pre_dispatch d h = ap (λ (x : Residue). next_of flag n true x.cents) (at_direction pre_dispatch no_residue d h)
 next_is flag n false pre_dispatch d h = (next_law flag n false _).absent refl ∙ rw ((next_law flag n false (pre_dispatch d).cents).absent refl)
 
--- an event put together from the record's header, its residues, those of pre-dispatch and the loop's sum is the record's
-pub event_is : (shares b : List ℕ) {residues pre_dispatch : List Residue} {sum : Cents}
-    → residues ≡ of_directions (residue_in false shares b)
-    → pre_dispatch ≡ pre_dispatch_of (present b) shares b
-    → sum ≡ loop_sum (λ k. (at residues k).cents)
-    → (d : ℕ) → d < 8 → event_from (header b) residues pre_dispatch sum b d ≡ event_of shares d b
-unfolding event_from event_of prices lines pre_dispatch_prices pre_dispatch_lines
-event_is shares b r a s d h =
-    rw (
-      s,
-      loop_sum_is (residue_in false shares b) r,
-      r,
-      a,
-      at_direction (residue_in false shares b) no_residue d h,
-      next_is (flag_of (operating b) (loop_sum (λ k. (residue shares b k).cents)) d) (record_number b) (present b) (residue_in true shares b) d h,
-    )
+-- What is put together from these parts is what the record says of the eight directions.
+module _ (shares : List ℕ) (r : Bor (List ℕ)) {h : Header} {own ahead : List Residue} {sum : Cents}
+    (is_header : h ≡ header r.now)
+    (are_own : own ≡ of_directions (residue shares r.now))
+    (are_ahead : ahead ≡ pre_dispatch_of h.present shares r.now)
+    (is_sum : sum ≡ loop_sum (λ k. (at own k).cents)) where
+  abbrev parts : Parts
+  parts = record { r = r; header = h; residues = own; pre_dispatch = ahead; loop_sum = sum }
+
+  event_is : (d : ℕ) → d < 8 → event_from parts d ≡ event_of shares d r.now
+  unfolding event_from event_of
+  event_is d l =
+      rw (
+        is_sum,
+        loop_sum_is (residue shares r.now) are_own,
+        are_own,
+        are_ahead,
+        is_header,
+        at_direction (residue shares r.now) no_residue d l,
+        next_is (flag_of (operating r.now) (loop_sum (λ k. (residue shares r.now k).cents)) d) (record_number r.now) (present r.now) (pre_dispatch_residue shares r.now) d l,
+      )
+
+  pub events_are : of_directions (event_from parts) ≡ of_directions (λ d. event_of shares d r.now)
+  events_are = same_directions (event_from parts) (λ d. event_of shares d r.now) (event_of shares 0 r.now) event_is

@@ -1,17 +1,16 @@
 -- What a record says of a direction, once its residues are worked out. No promise cites this.
-use Rattle.std.specs.Prelude.{Bool, true, cond, List, ◌≡◌, ℕ, ◌*◌, ◌≤◌, nat_abs, get_or, replicate}
-use Rattle.units.specs.declared.Cents.{Cents}
+use Rattle.std.specs.Prelude.{Bool, true, cond, List, ◌≡◌, ℕ, ◌+◌, ◌*◌, ◌≤◌, nat_abs, get_or, replicate}
 use Rattle.units.specs.declared.Hundredths.{Hundredths}
 use Rattle.units.specs.Units.{hundredths}
 use Rattle.rules.specs.declared.Event.{Event}
 use Rattle.rules.specs.declared.Residue.{Residue}
 use Rattle.rules.specs.Interval.{flag_of, next_of}
-use Rattle.rules.specs.Market.{of_directions}
-use Rattle.rules.specs.Record.{record_number, target, status, blocked, target_sum, of_regions, of_lines}
-use Rattle.rules.specs.Residue.{no_residue, over_lines, residue_of}
+use Rattle.rules.specs.Market.{corridor, of_directions}
+use Rattle.rules.specs.Record.{record_number, target, status, blocked, target_sum, pre_dispatch_residue}
+use Rattle.rules.specs.Residue.{no_residue, sum_from, over_lines}
 use Rattle.rules.specs.Tracker.{accepts}
-use Rattle.record.specs.declared.Header.{Header}
-use Rattle.record.specs.Internal.{largest_i32, price_of, line_of}
+use Rattle.words.specs.Internal.{largest_i32}
+use Rattle.events.specs.declared.Parts.{Parts}
 
 -- an accepted record, under shares that an opening accepted
 pub record Readable (shares b : List ℕ) : Type 0 where
@@ -23,23 +22,27 @@ pub record IsTargetOf (b : List ℕ) (c : ℕ) (r : Hundredths) : Type 0 where
   pub is : r ≡ hundredths (over_lines c (λ i. (target b i).0))
   pub small : nat_abs r.0 ≤ 2 * largest_i32
 
--- a direction's residue, of the interval (false) or of the pre-dispatch half-hour (true)
-abbrev pub residue_in : Bool → List ℕ → List ℕ → ℕ → Residue
-residue_in pre_dispatch shares b d = residue_of (of_regions (price_of pre_dispatch b)) shares (of_lines (line_of pre_dispatch b)) d
+-- the sum of the targets of the corridor's physical interconnectors before number i
+pub record IsSumBefore (b : List ℕ) (c i : ℕ) (sum : Hundredths) : Type 0 where
+  pub lines : ℕ
+  pub next : i ≡ (corridor c).first + lines
+  pub is : sum ≡ hundredths (sum_from (corridor c).first lines (λ i. (target b i).0))
+  pub small : nat_abs sum.0 ≤ largest_i32 * lines
 
 -- the residues of the pre-dispatch half-hour, where there is one
 abbrev pub pre_dispatch_of : Bool → List ℕ → List ℕ → List Residue
-pre_dispatch_of present shares b = cond present (of_directions (residue_in true shares b)) (replicate 8 no_residue)
+pre_dispatch_of present shares b = cond present (of_directions (pre_dispatch_residue shares b)) (replicate 8 no_residue)
 
-unfoldable pub event_from : Header → List Residue → List Residue → Cents → List ℕ → ℕ → Event
-event_from h residues pre_dispatch sum b d = record {
-  n = h.n;
-  flag = flag_of h.operating sum d;
-  residue = (get_or residues d no_residue).cents;
-  leftover = (get_or residues d no_residue).leftover;
-  next = next_of (flag_of h.operating sum d) h.n h.present (get_or pre_dispatch d no_residue).cents;
-  review = h.review;
-  status = status b d;
-  blocked = blocked b d;
-  target = target_sum b d;
+-- what a record says of direction d, put together from its parts
+unfoldable pub event_from : Parts → ℕ → Event
+event_from p d = record {
+  n = p.header.n;
+  flag = flag_of p.header.operating p.loop_sum d;
+  residue = (get_or p.residues d no_residue).cents;
+  leftover = (get_or p.residues d no_residue).leftover;
+  next = next_of (flag_of p.header.operating p.loop_sum d) p.header.n p.header.present (get_or p.pre_dispatch d no_residue).cents;
+  review = p.header.review;
+  status = status p.r.now d;
+  blocked = blocked p.r.now d;
+  target = target_sum p.r.now d;
 }

@@ -18,7 +18,7 @@ pub struct BothWays {
 // What both readers show of a row.
 #[derive(Clone, Copy)]
 pub struct Views {
-    pub trader: TraderView,
+    pub trader: Option<TraderView>,
     pub control: ControlView,
 }
 
@@ -36,8 +36,7 @@ pub fn after_two(first: u32, shares: [u16; 6], earlier: &[u8], later: &[u8]) -> 
     let opened = tracker::open(first, shares);
     let one = tracker::interval(opened.tracker, earlier);
     let two = tracker::interval(one.tracker, later);
-    let shown = tracker::row(two.tracker, 2);
-    shown.row
+    tracker::row(&two.tracker, 2).row
 }
 
 // The row of VIC1_SA1 after a record, with settings to try.
@@ -46,8 +45,7 @@ pub fn tried(first: u32, shares: [u16; 6], settings: Settings, bytes: &[u8]) -> 
 {
     let opened = tracker::open_with_settings(first, shares, settings);
     let one = tracker::interval(opened.tracker, bytes);
-    let shown = tracker::row(one.tracker, 4);
-    shown.row
+    tracker::row(&one.tracker, 4).row
 }
 
 // The rows of a corridor's two directions after a record.
@@ -56,13 +54,9 @@ pub fn both_ways(first: u32, shares: [u16; 6], bytes: &[u8]) -> BothWays
 {
     let opened = tracker::open(first, shares);
     let one = tracker::interval(opened.tracker, bytes);
-    let vic_nsw = tracker::row(one.tracker, 2);
-    let nsw_vic = tracker::row(one.tracker, 3);
-    let forward = vic_nsw.row;
-    let back = nsw_vic.row;
     BothWays {
-        forward: forward,
-        back: back,
+        forward: tracker::row(&one.tracker, 2).row,
+        back: tracker::row(&one.tracker, 3).row,
     }
 }
 
@@ -70,11 +64,9 @@ pub fn both_ways(first: u32, shares: [u16; 6], bytes: &[u8]) -> BothWays
 fn both_views(row: Row) -> Views
     ensures { Read row result }
 {
-    let trader = readers::trader(row);
-    let control = readers::control(row);
     Views {
-        trader: trader,
-        control: control,
+        trader: readers::trader(row),
+        control: readers::control(row),
     }
 }
 
@@ -82,10 +74,8 @@ fn both_views(row: Row) -> Views
 pub fn compared(one: Row, other: Row) -> TwoViews
     ensures { Told one other result }
 {
-    let of_one = both_views(one);
-    let of_other = both_views(other);
     TwoViews {
-        one: of_one,
-        other: of_other,
+        one: both_views(one),
+        other: both_views(other),
     }
 }

@@ -1,19 +1,20 @@
 // The journal: records end to end with a trailer. A read checks all of it and says what it holds; the second call gives the records that survive
-// (N7); a write makes a journal. Every call takes any bytes: what the documents refuse comes back as its number. What they return, for every
-// input, is in journal_rules/specs/Promise.
+// (N7); a write makes a journal. Every call takes any bytes, and refuses what the documents refuse. What they return, for every input, is in
+// journal_rules/specs/Promise.
 
 #![tactic(auto)]
 
-ghost use Rattle.std.specs.Prelude.{true, ◌≡◌, ◌+◌, ◌*◌, ◌<◌, ◌≤◌, length};
+ghost use Rattle.std.specs.Prelude.{true, ◌≡◌, ◌+◌, ◌≤◌, length};
 ghost use mathlib.Core.List.{flatten};
-ghost use Rattle.words.specs.Buffer.{over};
-ghost use Rattle.journal_rules.specs.Journal.{record_length, trailer_length, number_at, issue_at, first_number, last_number, follows, followed_at, in_order, trailer_word, part, bad_length, bad_trailer, bad_numbers, bad_records, read_outcome, records_of, journal_of, write_outcome};
-ghost use Rattle.journal_rules.specs.Survivors.{survivors, survivors_outcome};
-ghost use Rattle.journal_rules.specs.Internal.{Shaped, counted_records, issued_again, Whole};
+ghost use Rattle.tracker.specs.Promise.{record_number, issue};
+ghost use Rattle.words.specs.Buffer.{Puts};
+ghost use Rattle.journal_rules.specs.Journal.{trailer_length, first_number, last_number, follows, in_order, count, distance, first, last, holding, bad_length, bad_trailer, bad_numbers, bad_records, records_of, journal_of};
+ghost use Rattle.journal_rules.specs.Survivors.{survivors};
+ghost use Rattle.journal_rules.specs.Internal.{records_in, last_records, issued_again, Whole};
 ghost use Rattle.journal_rules.specs.Promise.{ReadPromise, SurvivorsPromise, WritePromise};
 
-use journal_rules::{Found, Surviving, Written};
-use rules::{Outcome, RECORD};
+use journal_rules::Contents;
+use rules::{RECORD, Refusal};
 
 // The length of a trailer.
 pub const TRAILER: usize = 16;
@@ -28,232 +29,157 @@ const LONGEST_PREFACE: usize = 1024;
 
 pub const LONGEST_JOURNAL: usize = 65536;
 
-// The trailer's words, in their order.
-const COUNT: usize = 0;
+type Record = [u8; RECORD];
 
-const DISTANCE: usize = 1;
-
-const FIRST: usize = 2;
-
-const LAST: usize = 3;
-
-// The n of record i, which a record starts with.
-fn number_at(records: &[u8], i: usize) -> u32
-    requires { record_length * i + 4 ≤ length records.now }
-    ensures { result ≡ number_at records.now i }
-{
-    words::u32_at(records, RECORD * i)
+// What a trailer says: what the journal holds, and how far before the trailer its first record begins.
+#[derive(Clone, Copy)]
+struct Trailer {
+    contents: Contents,
+    distance: u32,
 }
 
-// The issue of record i.
-fn issue_at(records: &[u8], i: usize) -> u8
-    requires { record_length * i + 14 ≤ length records.now }
-    ensures { result ≡ issue_at records.now i }
+// Records end to end, one by one; bytes too few for a record are left out.
+fn as_records(bytes: &[u8]) -> &[Record]
+    ensures { result.now ≡ records_in bytes.now }
 {
-    records[RECORD * i + ISSUE]
+    bytes.as_chunks::<RECORD>().0
 }
 
-#[tactic(auto, unfolding(journal_rules::specs::Journal::first_number))]
+// The n of a record, which it starts with.
+fn number_of(record: &Record) -> u32
+    ensures { result ≡ record_number record.now }
+{
+    words::u32_at(record, 0)
+}
+
+#[tactic(auto, using(journal_rules::proofs::OneByOne::how_many, journal_rules::proofs::OneByOne::number_in), unfolding(journal_rules::specs::Journal::first_number))]
 fn first_number(records: &[u8]) -> u32
     ensures { result ≡ first_number records.now }
 {
-    if records.len() / RECORD == 0 {
-        return 0;
+    match as_records(records) {
+        [] => 0,
+        [first, ..] => number_of(first),
     }
-    number_at(records, 0)
 }
 
-#[tactic(auto, unfolding(journal_rules::specs::Journal::last_number))]
+#[tactic(auto, using(journal_rules::proofs::OneByOne::how_many, journal_rules::proofs::OneByOne::number_in), unfolding(journal_rules::specs::Journal::last_number))]
 fn last_number(records: &[u8]) -> u32
     ensures { result ≡ last_number records.now }
 {
-    let count = records.len() / RECORD;
-    if count == 0 {
-        return 0;
+    match as_records(records) {
+        [] => 0,
+        [.., last] => number_of(last),
     }
-    number_at(records, count - 1)
 }
 
-// Whether a record of number m and issue y may stand after one of number n and issue x (N7). In u64, where one more than the highest n is no n.
-fn follows(n: u32, x: u8, m: u32, y: u8) -> bool
-    ensures { result ≡ follows n x m y }
+// May record b stand after record a: of the same n and a higher issue, or of the next n (N7)? The highest n has no next one.
+fn follows(a: &Record, b: &Record) -> bool
+    ensures { result ≡ follows (record_number a.now) (issue a.now) (record_number b.now) (issue b.now) }
 {
-    if m == n {
-        return x < y;
-    }
-    m as u64 == n as u64 + 1
-}
-
-// Does the record after record k follow it?
-fn followed_at(records: &[u8], k: usize) -> bool
-    requires { record_length * (k + 2) ≤ length records.now }
-    ensures { result ≡ followed_at records.now k }
-{
-    follows(
-        number_at(records, k),
-        issue_at(records, k),
-        number_at(records, k + 1),
-        issue_at(records, k + 1),
-    )
+    let n = number_of(a);
+    let m = number_of(b);
+    m == n && a[ISSUE] < b[ISSUE] || n.checked_add(1) == Some(m)
 }
 
 // For both refusals 14, of a read and of a write.
 fn in_order(records: &[u8]) -> bool
     ensures { result ≡ in_order records.now }
 {
-    let count = records.len() / RECORD;
-    let mut i = 0;
-    while i + 1 < count {
-        if !followed_at(records, i) {
-            return false;
-        }
-        i += 1;
-    }
-    true
-}
-
-// Word k of the trailer.
-fn trailer_word(journal: &[u8], k: usize) -> u32
-    requires { (trailer_length ≤ length journal.now) × (k < 4) }
-    ensures { result ≡ trailer_word journal.now k }
-{
-    words::u32_at(journal, journal.len() - TRAILER + 4 * k)
+    let records = as_records(records);
+    records.windows(2).all(|pair| follows(&pair[0], &pair[1]))
 }
 
 #[tactic(auto, unfolding(journal_rules::specs::Journal::bad_length))]
 fn bad_length(journal: &[u8]) -> bool
     ensures { result ≡ bad_length journal.now }
 {
-    if journal.len() < TRAILER {
-        return true;
-    }
-    LONGEST_JOURNAL < journal.len()
+    journal.len() < TRAILER || LONGEST_JOURNAL < journal.len()
 }
 
-// Where the trailer says that the records are: only then may `part` go there.
+fn read_trailer(journal: &[u8]) -> Trailer
+    requires { trailer_length ≤ length journal.now }
+    ensures contents { result.contents ≡ holding (count journal.now) (first journal.now) (last journal.now) }
+    ensures distance { result.distance ≡ distance journal.now }
+{
+    let at = journal.len() - TRAILER;
+    Trailer {
+        contents: Contents {
+            count: words::u32_at(journal, at),
+            first: words::u32_at(journal, at + 8),
+            last: words::u32_at(journal, at + 12),
+        },
+        distance: words::u32_at(journal, at + 4),
+    }
+}
+
+// Where the trailer says that the records are.
 #[tactic(auto, unfolding(journal_rules::specs::Journal::bad_trailer))]
 fn bad_trailer(journal: &[u8]) -> bool
     requires { trailer_length ≤ length journal.now }
     ensures { result ≡ bad_trailer journal.now }
 {
-    let count = trailer_word(journal, COUNT) as usize;
-    if MOST_RECORDS < count {
-        return true;
-    }
-    let distance = trailer_word(journal, DISTANCE) as usize;
-    if distance != RECORD * count {
-        return true;
-    }
-    if journal.len() < distance + TRAILER {
-        return true;
-    }
-    LONGEST_PREFACE < journal.len() - TRAILER - distance
-}
-
-// The part of the journal that holds the records.
-#[tactic(auto, unfolding(journal_rules::specs::Journal::part))]
-fn part(journal: &[u8]) -> &[u8]
-    requires { Shaped journal.now }
-    ensures { result.now ≡ part journal.now }
-{
-    let end = journal.len() - TRAILER;
-    let start = end - trailer_word(journal, DISTANCE) as usize;
-    &journal[start..end]
+    let trailer = read_trailer(journal);
+    let count = trailer.contents.count as usize;
+    let distance = trailer.distance as usize;
+    MOST_RECORDS < count
+        || distance != RECORD * count
+        || journal.len() < distance + TRAILER
+        || LONGEST_PREFACE < journal.len() - TRAILER - distance
 }
 
 // What the trailer says of the records, against the records.
 #[tactic(auto, unfolding(journal_rules::specs::Journal::bad_numbers))]
-fn bad_numbers(first: u32, last: u32, records: &[u8]) -> bool
-    ensures { result ≡ bad_numbers first last records.now }
+fn bad_numbers(contents: Contents, records: &[u8]) -> bool
+    ensures { result ≡ bad_numbers contents.first contents.last records.now }
 {
-    if first != first_number(records) {
-        return true;
-    }
-    last != last_number(records)
+    contents.first != first_number(records) || contents.last != last_number(records)
 }
 
-// The first condition that is met gives the number.
-fn read_outcome(journal: &[u8]) -> Outcome
-    ensures { result ≡ read_outcome journal.now }
+// As many records as counted, those that end at the trailer; none where they and a trailer are longer than the journal. For `listing`, which has
+// read the journal; outside, `records` is offered.
+pub fn counted_records(journal: &[u8], contents: Contents) -> &[u8]
+    ensures { result.now ≡ last_records contents.count journal.now }
 {
-    if bad_length(journal) {
-        return Outcome::Refused(11);
+    let distance = RECORD * contents.count as usize;
+    if journal.len() < distance + TRAILER {
+        return &[];
     }
-    if bad_trailer(journal) {
-        return Outcome::Refused(12);
-    }
-    let first = trailer_word(journal, FIRST);
-    let last = trailer_word(journal, LAST);
-    let records = part(journal);
-    if bad_numbers(first, last, records) {
-        return Outcome::Refused(13);
-    }
-    if !in_order(records) {
-        return Outcome::Refused(14);
-    }
-    Outcome::Accepted
+    let end = journal.len() - TRAILER;
+    &journal[end - distance..end]
 }
 
 // What a journal holds.
-pub fn read(journal: &[u8]) -> Found
+#[tactic(auto, using(journal_rules::proofs::Accept::long_enough))]
+pub fn read(journal: &[u8]) -> Result<Contents, Refusal>
     ensures { ReadPromise journal.now result }
 {
-    let outcome = read_outcome(journal);
-    match outcome {
-        Outcome::Accepted => {
-            Found::Journal {
-                count: trailer_word(journal, COUNT),
-                first: trailer_word(journal, FIRST),
-                last: trailer_word(journal, LAST),
-            }
-        }
-        Outcome::Refused(k) => Found::Refused(k),
-    }
-}
-
-// The records by what a read gave, without judging the journal again: as many as it counted, those that end at the trailer; of length 0 where
-// they and a trailer are longer than the journal, and on a refusal. For `listing`, which has read the journal; outside, `records` is offered.
-pub fn counted_records(journal: &[u8], found: Found) -> &[u8]
-    ensures { result.now ≡ counted_records found journal.now }
-{
-    let Found::Journal {
-        count,
-        first: _,
-        last: _,
-    } = found
-    else {
-        return &journal[..0];
-    };
-    let distance = RECORD * count as usize;
-    if journal.len() < distance + TRAILER {
-        return &journal[..0];
-    }
-    let end = journal.len() - TRAILER;
-    let start = end - distance;
-    &journal[start..end]
+    Refusal::BadLength.when(bad_length(journal))?;
+    Refusal::BadTrailer.when(bad_trailer(journal))?;
+    let contents = read_trailer(journal).contents;
+    let records = counted_records(journal, contents);
+    Refusal::BadNumbers.when(bad_numbers(contents, records))?;
+    Refusal::NotInOrder.when(!in_order(records))?;
+    Ok(contents)
 }
 
 // The records of a journal, as the part of it that holds them; of length 0 where a read is refused.
 pub fn records(journal: &[u8]) -> &[u8]
     ensures { result.now ≡ records_of journal.now }
 {
-    counted_records(journal, read(journal))
+    match read(journal) {
+        Ok(contents) => counted_records(journal, contents),
+        Err(_) => &[],
+    }
 }
 
 // Is record i issued again: has the next one the same n? In records that are in order just the superseded ones are, so that the next record
 // tells, and no other need be looked at. For `listing`, which has read the journal; it asks for nothing.
+#[tactic(auto, using(journal_rules::proofs::OneByOne::how_many, journal_rules::proofs::OneByOne::number_in))]
 pub fn issued_again(records: &[u8], i: usize) -> bool
     ensures { result ≡ issued_again records.now i }
 {
-    let count = records.len() / RECORD;
-    if count <= i {
-        return false;
-    }
-    let next = i + 1;
-    if next < count {
-        return number_at(records, next) == number_at(records, i);
-    }
-    false
+    let records = as_records(records);
+    i < records.len().saturating_sub(1) && number_of(&records[i + 1]) == number_of(&records[i])
 }
 
 // How many bytes the survivors have.
@@ -261,114 +187,65 @@ fn survivors_length(records: &[u8]) -> usize
     requires { in_order records.now ≡ true }
     ensures { result ≡ length (flatten (survivors records.now)) }
 {
-    let mut bytes = 0;
-    for k in 0..records.len() / RECORD {
-        if issued_again(records, k) {
-            continue;
-        }
-        bytes += RECORD;
-    }
-    bytes
+    RECORD
+        * (0..records.len() / RECORD)
+            .filter(|&i| !issued_again(records, i))
+            .count()
 }
 
 // The survivors, at the start of a buffer that has room for them.
 fn put_survivors(records: &[u8], out: &mut [u8]) -> usize
     requires { (in_order records.now ≡ true) × (length (flatten (survivors records.now)) ≤ length out.old) }
-    ensures value { result ≡ length (flatten (survivors records.now)) }
-    ensures out_after { out.new ≡ over (flatten (survivors records.now)) out.old }
+    ensures { Puts (flatten (survivors records.now)) out.old result out.new }
 {
-    let mut at = 0;
-    for i in 0..records.len() / RECORD {
+    let mut n = 0;
+    for (i, bytes) in as_records(records).iter().enumerate() {
         if issued_again(records, i) {
             continue;
         }
-        let from = RECORD * i;
-        at = words::put_bytes(&records[from..from + RECORD], out, at);
+        n += words::put_bytes(bytes, &mut out[n..]);
     }
-    at
-}
-
-// As a read does, then the room: all is checked here, before the first byte is written.
-fn survivors_outcome(journal: &[u8], room: usize) -> Outcome
-    ensures { result ≡ survivors_outcome journal.now room }
-{
-    let outcome = read_outcome(journal);
-    match outcome {
-        Outcome::Accepted => {
-            if room < survivors_length(part(journal)) {
-                return Outcome::Refused(16);
-            }
-            Outcome::Accepted
-        }
-        Outcome::Refused(k) => Outcome::Refused(k),
-    }
+    n
 }
 
 // For each n its record of highest issue, in order of n, at the start of the buffer (N7); the bytes after them keep their values, and on a refusal
-// all do.
-pub fn survivors(journal: &[u8], out: &mut [u8]) -> Surviving
+// all do: all is checked before the first byte is written.
+pub fn survivors(journal: &[u8], out: &mut [u8]) -> Result<u32, Refusal>
     ensures { SurvivorsPromise journal.now out.old result out.new }
 {
-    let outcome = survivors_outcome(journal, out.len());
-    match outcome {
-        Outcome::Accepted => {
-            let n = put_survivors(part(journal), out);
-            Surviving::Records((n / RECORD) as u32)
-        }
-        Outcome::Refused(k) => Surviving::Refused(k),
-    }
+    let records = counted_records(journal, read(journal)?);
+    Refusal::NoRoom.when(out.len() < survivors_length(records))?;
+    let n = put_survivors(records, out);
+    Ok((n / RECORD) as u32)
 }
 
 #[tactic(auto, unfolding(journal_rules::specs::Journal::bad_records))]
 fn bad_records(records: &[u8]) -> bool
     ensures { result ≡ bad_records records.now }
 {
-    if records.len() % RECORD != 0 {
-        return true;
-    }
-    MOST_RECORDS < records.len() / RECORD
-}
-
-// All is checked here, before the first byte is written.
-fn write_outcome(records: &[u8], room: usize) -> Outcome
-    ensures { result ≡ write_outcome records.now room }
-{
-    if bad_records(records) {
-        return Outcome::Refused(15);
-    }
-    if !in_order(records) {
-        return Outcome::Refused(14);
-    }
-    if room < records.len() + TRAILER {
-        return Outcome::Refused(16);
-    }
-    Outcome::Accepted
+    records.len() % RECORD != 0 || MOST_RECORDS < records.len() / RECORD
 }
 
 // Records and their trailer, at the start of a buffer that has room for them.
 fn fill(records: &[u8], out: &mut [u8]) -> usize
     requires { Whole records.now × (length records.now + 16 ≤ length out.old) }
-    ensures value { result ≡ length records.now + 16 }
-    ensures out_after { out.new ≡ over (journal_of records.now) out.old }
+    ensures { Puts (journal_of records.now) out.old result out.new }
 {
     let distance = records.len();
-    let a = words::put_bytes(records, out, 0);
-    let b = words::put_u32((distance / RECORD) as u32, out, a);
-    let c = words::put_u32(distance as u32, out, b);
-    let d = words::put_u32(first_number(records), out, c);
-    words::put_u32(last_number(records), out, d)
+    let mut n = words::put_bytes(records, out);
+    n += words::put_u32((distance / RECORD) as u32, &mut out[n..]);
+    n += words::put_u32(distance as u32, &mut out[n..]);
+    n += words::put_u32(first_number(records), &mut out[n..]);
+    n + words::put_u32(last_number(records), &mut out[n..])
 }
 
-// A journal of these records, at the start of the buffer; the bytes after it keep their values, and on a refusal all do.
-pub fn write(records: &[u8], out: &mut [u8]) -> Written
+// A journal of these records, at the start of the buffer; the bytes after it keep their values, and on a refusal all do: all is checked before the
+// first byte is written.
+pub fn write(records: &[u8], out: &mut [u8]) -> Result<usize, Refusal>
     ensures { WritePromise records.now out.old result out.new }
 {
-    let outcome = write_outcome(records, out.len());
-    match outcome {
-        Outcome::Accepted => {
-            let n = fill(records, out);
-            Written::Bytes(n)
-        }
-        Outcome::Refused(k) => Written::Refused(k),
-    }
+    Refusal::BadRecords.when(bad_records(records))?;
+    Refusal::NotInOrder.when(!in_order(records))?;
+    Refusal::NoRoom.when(out.len() < records.len() + TRAILER)?;
+    Ok(fill(records, out))
 }

@@ -12,14 +12,10 @@ use lib.ListN.{length, drop, replicate, length-append}
 use lib.Seq.{drop-append_seam}
 use Rattle.words.specs.Buffer.{little_of}
 use Rattle.tracker.proofs.Promise.{number_met_lem, numbers}
-use Rattle.journal_rules.specs.declared.Found.{Found}
-use Rattle.journal_rules.specs.declared.Found.TheVariants.{Journal, Refused}
-use Rattle.journal_rules.specs.declared.Surviving.{Surviving}
-use Rattle.journal_rules.specs.declared.Surviving.TheVariants.{Records, Refused as NotGiven}
-use Rattle.journal_rules.specs.declared.Written.{Written}
-use Rattle.journal_rules.specs.declared.Written.TheVariants.{Bytes, Refused as NotWritten}
-use Rattle.journal_rules.specs.Journal.{Outcome, Accepted, RefusedBy, Condition, judged, number_of, number_met, u32_at, each, record_count, first_number, last_number, in_order, count, distance, part, bad_length, bad_trailer, bad_numbers, read_conditions, read_outcome, read_of, found_number, found_values, records_of, trailer_of, journal_of, bad_records, write_conditions, write_outcome, written_of, written_number, written_values, buffer_by, buffer_of}
-use Rattle.journal_rules.specs.Survivors.{survives, survivors_from, survivors, survivors_conditions, survivors_outcome, surviving_of, surviving_number, surviving_values, survivors_buffer_by, survivors_buffer}
+use Rattle.std.specs.Prelude.{Result, Ok, Err}
+use Rattle.journal_rules.specs.declared.Contents.{Contents}
+use Rattle.journal_rules.specs.Journal.{Refusal, BadLength, BadTrailer, BadNumbers, NotInOrder, BadRecords, number, Outcome, Condition, judged, number_of, number_met, u32_at, each, record_count, first_number, last_number, in_order, count, distance, part, bad_length, bad_trailer, bad_numbers, read_conditions, read_outcome, holding, read_of, found_values, records_of, trailer_of, journal_of, bad_records, write_conditions, write_outcome, written_of, written_values, buffer_by, buffer_of}
+use Rattle.journal_rules.specs.Survivors.{survives, survivors_from, survivors, survivors_conditions, survivors_outcome, surviving_of, surviving_values, survivors_buffer_by, survivors_buffer}
 
 -- ---- numbers and values, as document 01 writes them
 -- Journal read: 11; 12; 13; 14.
@@ -37,33 +33,33 @@ pub survivors_numbers : (s : List ℕ) (room : ℕ) → numbers (survivors_condi
 unfolding survivors_conditions read_conditions
 survivors_numbers s room = refl
 
-abbrev read_says : Found → Option ℕ × List ℕ
-read_says f = (found_number f, found_values f)
+abbrev read_says : Result Contents Refusal → Option ℕ × List ℕ
+read_says f = (number_of f, found_values f)
 
-abbrev write_says : Written → Option ℕ × List ℕ
-write_says w = (written_number w, written_values w)
+abbrev write_says : Result ℕ Refusal → Option ℕ × List ℕ
+write_says w = (number_of w, written_values w)
 
-abbrev second_says : Surviving → Option ℕ × List ℕ
-second_says a = (surviving_number a, surviving_values a)
+abbrev second_says : Result ℕ Refusal → Option ℕ × List ℕ
+second_says a = (number_of a, surviving_values a)
 
 -- A refusal returns only its number,
-pub refused_read : (k : ℕ) → read_says (Refused k) ≡ (some k, [])
-refused_read k = refl
+pub refused_read : (why : Refusal) → read_says (Err why) ≡ (some (number why), [])
+refused_read why = refl
 
-pub refused_write : (k : ℕ) → write_says (NotWritten k) ≡ (some k, [])
-refused_write k = refl
+pub refused_write : (why : Refusal) → write_says (Err why) ≡ (some (number why), [])
+refused_write why = refl
 
-pub refused_second : (k : ℕ) → second_says (NotGiven k) ≡ (some k, [])
-refused_second k = refl
+pub refused_second : (why : Refusal) → second_says (Err why) ≡ (some (number why), [])
+refused_second why = refl
 
 -- and an acceptance has no number, but values.
-pub accepted_read : read_says (Journal 2 5 6) ≡ (none, 2 ∷ 5 ∷ 6 ∷ [])
+pub accepted_read : read_says (Ok (holding 2 5 6)) ≡ (none, 2 ∷ 5 ∷ 6 ∷ [])
 accepted_read = refl
 
-pub accepted_write : write_says (Bytes 352) ≡ (none, 352 ∷ [])
+pub accepted_write : write_says (Ok 352) ≡ (none, 352 ∷ [])
 accepted_write = refl
 
-pub accepted_second : second_says (Records 2) ≡ (none, 2 ∷ [])
+pub accepted_second : second_says (Ok 2) ≡ (none, 2 ∷ [])
 accepted_second = refl
 
 -- ---- the first condition met gives the number; without one the call is accepted: every fault at once, then mended one by one
@@ -131,11 +127,11 @@ module _ (s : List ℕ) where
   length_limits = ((λ l. rw l, λ l. rw l), (λ l. rw l, λ l. rw l))
 
   -- and whatever else is wrong.
-  pub too_short : length s < 16 → read_of s ≡ Refused 11
+  pub too_short : length s < 16 → read_of s ≡ Err BadLength
   unfolding bad_length read_conditions read_outcome read_of
   too_short l = rw (lt-ltb (length s) 16 l)
 
-  pub too_long : 65536 < length s → read_of s ≡ Refused 11
+  pub too_long : 65536 < length s → read_of s ≡ Err BadLength
   unfolding bad_length read_conditions read_outcome read_of
   too_long l = rw (lt-ltb 65536 (length s) l, or-true (ltb (length s) 16))
 
@@ -159,20 +155,20 @@ pub misplaced_or_misnumbered : map read_of
     ∷ journal_at [] 0 0 0 1
     ∷ journal_at [] 0 0 0 0
     ∷ [])
-    ≡ Refused 12 ∷ Refused 13 ∷ Refused 13 ∷ Refused 13 ∷ Refused 13 ∷ Journal 0 0 0 ∷ []
+    ≡ Err BadTrailer ∷ Err BadNumbers ∷ Err BadNumbers ∷ Err BadNumbers ∷ Err BadNumbers ∷ Ok (holding 0 0 0) ∷ []
 unfolding u32_at each first_number last_number in_order part bad_length bad_trailer bad_numbers read_conditions read_outcome read_of
 misplaced_or_misnumbered = refl
 
 -- Number 14, a record's n not one more than the last one's, wherever it stands, where all have one issue.
 pub disordered : map (λ ns. written_of (records_at ns) 520)
     ((5 ∷ 5 ∷ 6 ∷ []) ∷ (5 ∷ 6 ∷ 6 ∷ []) ∷ (5 ∷ 6 ∷ 8 ∷ []) ∷ (7 ∷ 6 ∷ 5 ∷ []) ∷ (5 ∷ 6 ∷ 7 ∷ []) ∷ [])
-    ≡ NotWritten 14 ∷ NotWritten 14 ∷ NotWritten 14 ∷ NotWritten 14 ∷ Bytes 520 ∷ []
+    ≡ Err NotInOrder ∷ Err NotInOrder ∷ Err NotInOrder ∷ Err NotInOrder ∷ Ok 520 ∷ []
 unfolding u32_at each in_order bad_records write_conditions write_outcome written_of
 disordered = refl
 
 -- Number 14 (N7), by n and issue: a higher issue of the same n, and the next n under any issue, the first record's too; not an equal issue, not a
 -- lower one, nor a higher one after the next n, after a gap or of the n before.
-abbrev written_as : List (ℕ × ℕ) → Written
+abbrev written_as : List (ℕ × ℕ) → Result ℕ Refusal
 written_as ps = written_of (issued ps) 520
 
 pub reissued : map written_as
@@ -183,7 +179,7 @@ pub reissued : map written_as
     ∷ ((5, 0) ∷ (6, 0) ∷ (5, 1) ∷ [])
     ∷ ((5, 0) ∷ (6, 0) ∷ (8, 1) ∷ [])
     ∷ [])
-    ≡ Bytes 520 ∷ Bytes 520 ∷ NotWritten 14 ∷ NotWritten 14 ∷ NotWritten 14 ∷ NotWritten 14 ∷ []
+    ≡ Ok 520 ∷ Ok 520 ∷ Err NotInOrder ∷ Err NotInOrder ∷ Err NotInOrder ∷ Err NotInOrder ∷ []
 unfolding u32_at each in_order bad_records write_conditions write_outcome written_of
 reissued = refl
 
@@ -198,27 +194,27 @@ module _ (r : List ℕ) where
   unfolding bad_records
   records_limit = (λ l. rw l, λ l. rw l)
 
-  pub too_many : (room : ℕ) → 288 < record_count r → written_of r room ≡ NotWritten 15
+  pub too_many : (room : ℕ) → 288 < record_count r → written_of r room ≡ Err BadRecords
   unfolding bad_records write_conditions write_outcome written_of
   too_many room c = rw (lt-ltb 288 (record_count r) c, or-true (not (eqb (length r % 168) 0)))
 
 -- ---- the records, and the buffer that a write is lent
-refused_by : (cs : List Condition) (k : ℕ) → number_met cs ≡ some k → judged cs ≡ RefusedBy k
+refused_by : (cs : List Condition) (k : ℕ) → number_met cs ≡ some k → (why : Refusal) × (judged cs ≡ Err why)
 refused_by cs k e = go (judged cs) (number_met_lem cs ∙ e)
   where
-    go : (o : Outcome) → number_of o ≡ some k → o ≡ RefusedBy k
-    go Accepted n = cc
-    go (RefusedBy m) n = cc
+    go : (o : Outcome) → number_of o ≡ some k → (why : Refusal) × (o ≡ Err why)
+    go (Ok done) n = cc
+    go (Err why) n = (why, refl)
 
 -- The part of the lent journal that holds them; on a refusal it has length 0.
 module _ (s : List ℕ) where
-  pub records_found : read_outcome s ≡ Accepted → records_of s ≡ part s
+  pub records_found : read_outcome s ≡ Ok tt → records_of s ≡ part s
   unfolding records_of
   records_found e = rw e
 
   pub no_records : (k : ℕ) → number_met (read_conditions s) ≡ some k → records_of s ≡ []
   unfolding records_of read_outcome
-  no_records k e = rw (refused_by (read_conditions s) k e)
+  no_records k e = rw (refused_by (read_conditions s) k e).1
 
 pub journal_length : (r : List ℕ) → length (journal_of r) ≡ length r + 16
 unfolding journal_of
@@ -228,26 +224,26 @@ journal_length r = length-append r (trailer_of r)
 module _ (r d : List ℕ) where
   pub untouched : (k : ℕ) → number_met (write_conditions r (length d)) ≡ some k → buffer_of r d ≡ d
   unfolding buffer_of write_outcome
-  untouched k e = rw (refused_by (write_conditions r (length d)) k e)
+  untouched k e = rw (refused_by (write_conditions r (length d)) k e).1
 
   pub kept_after : drop (length r + 16) (buffer_of r d) ≡ drop (length r + 16) d
   unfolding buffer_of
   kept_after = go (write_outcome r (length d))
     where
       go : (o : Outcome) → drop (length r + 16) (buffer_by o r d) ≡ drop (length r + 16) d
-      go Accepted = rw (← journal_length r) (drop-append_seam (journal_of r) (drop (length (journal_of r)) d))
-      go (RefusedBy k) = refl
+      go (Ok done) = rw (← journal_length r) (drop-append_seam (journal_of r) (drop (length (journal_of r)) d))
+      go (Err why) = refl
 
 -- Of the second call (N7): a refusal leaves the buffer as it was, and on success bytes after the survivors keep their values.
 module _ (s d : List ℕ) where
   pub second_untouched : (k : ℕ) → number_met (survivors_conditions s (length d)) ≡ some k → survivors_buffer s d ≡ d
   unfolding survivors_buffer survivors_outcome
-  second_untouched k e = rw (refused_by (survivors_conditions s (length d)) k e)
+  second_untouched k e = rw (refused_by (survivors_conditions s (length d)) k e).1
 
   pub second_kept_after : (let w = flatten (survivors (part s)) in drop (length w) (survivors_buffer s d) ≡ drop (length w) d)
   unfolding survivors_buffer
   second_kept_after = go (survivors_outcome s (length d))
     where
       go : (o : Outcome) → (let w = flatten (survivors (part s)) in drop (length w) (survivors_buffer_by o s d) ≡ drop (length w) d)
-      go Accepted = let w = flatten (survivors (part s)) in drop-append_seam w (drop (length w) d)
-      go (RefusedBy k) = refl
+      go (Ok done) = let w = flatten (survivors (part s)) in drop-append_seam w (drop (length w) d)
+      go (Err why) = refl

@@ -2,6 +2,7 @@
 pub mod Laws
 pub mod Order
 pub mod Survivors
+pub mod OneByOne
 pub mod Accept
 pub mod RoundTrip
 pub mod Promise

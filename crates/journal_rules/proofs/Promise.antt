@@ -8,12 +8,10 @@ use native.Mathlib.Omega.{arith}
 use lib.ListN.{length, take, drop}
 use lib.Seq.{take_at}
 use Rattle.tracker.proofs.Promise.{number_met_lem}
-use Rattle.journal_rules.specs.declared.Found.{Found}
-use Rattle.journal_rules.specs.declared.Surviving.{Surviving}
-use Rattle.journal_rules.specs.declared.Surviving.TheVariants.{Records}
-use Rattle.journal_rules.specs.declared.Written.{Written}
-use Rattle.journal_rules.specs.Journal.{Outcome, Accepted, RefusedBy, judged, number_of, record_length, trailer_length, count, first, last, part, read_conditions, read_outcome, found_by, read_of, records_of, found_number, found_values, write_conditions, write_outcome, written_by, written_of, buffer_of, written_number, written_values}
-use Rattle.journal_rules.specs.Survivors.{survivors, survivors_conditions, survivors_outcome, surviving_by, surviving_of, survivors_buffer, surviving_number, surviving_values}
+use Rattle.std.specs.Prelude.{Result, Ok, Err}
+use Rattle.journal_rules.specs.declared.Contents.{Contents}
+use Rattle.journal_rules.specs.Journal.{Refusal, Outcome, judged, number_of, record_length, trailer_length, count, first, last, part, read_conditions, read_outcome, found_by, read_of, records_of, found_values, write_conditions, write_outcome, written_by, written_of, buffer_of, written_values}
+use Rattle.journal_rules.specs.Survivors.{survivors, survivors_conditions, survivors_outcome, surviving_by, surviving_of, survivors_buffer, surviving_values}
 use Rattle.journal_rules.specs.Promise.{unless_refused, ReadPromise, WritePromise, SurvivorsPromise}
 use Rattle.words.proofs.Little.{SliceOfBytes, bytewise}
 use Rattle.journal_rules.proofs.Accept.{records_ordered, given}
@@ -26,11 +24,11 @@ module _ (s : List ℕ) where
   abbrev held : List ℕ
   held = count s ∷ first s ∷ last s ∷ []
 
-  found_says : (o : Outcome) {n : Option ℕ} → number_of o ≡ n → (found_number (found_by o s) ≡ n) × (found_values (found_by o s) ≡ unless_refused n held)
-  found_says Accepted e = (e, rw (← e))
-  found_says (RefusedBy k) e = (e, rw (← e))
+  found_says : (o : Outcome) {n : Option ℕ} → number_of o ≡ n → (number_of (found_by o s) ≡ n) × (found_values (found_by o s) ≡ unless_refused n held)
+  found_says (Ok done) e = (e, rw (← e))
+  found_says (Err why) e = (e, rw (← e))
 
-  pub read_promise : {answer : Found} → SliceOfBytes s → answer ≡ read_of s → ReadPromise s answer
+  pub read_promise : {answer : Result Contents Refusal} → SliceOfBytes s → answer ≡ read_of s → ReadPromise s answer
   unfolding read_of read_outcome
   read_promise b e =
       let says = found_says (judged (read_conditions s)) (number_met_lem (read_conditions s)) in
@@ -45,11 +43,11 @@ module _ (s : List ℕ) where
 module _ (r d : List ℕ) where
   written_says : (o : Outcome) {n : Option ℕ}
       → number_of o ≡ n
-      → (written_number (written_by o r) ≡ n) × (written_values (written_by o r) ≡ unless_refused n ((length r + trailer_length) ∷ []))
-  written_says Accepted e = (e, rw (← e))
-  written_says (RefusedBy k) e = (e, rw (← e))
+      → (number_of (written_by o r) ≡ n) × (written_values (written_by o r) ≡ unless_refused n ((length r + trailer_length) ∷ []))
+  written_says (Ok done) e = (e, rw (← e))
+  written_says (Err why) e = (e, rw (← e))
 
-  pub write_promise : {answer : Written} {left : List ℕ} → SliceOfBytes r → answer ≡ written_of r (length d) → left ≡ buffer_of r d → WritePromise r d answer left
+  pub write_promise : {answer : Result ℕ Refusal} {left : List ℕ} → SliceOfBytes r → answer ≡ written_of r (length d) → left ≡ buffer_of r d → WritePromise r d answer left
   unfolding written_of buffer_of write_outcome
   write_promise b e buffer =
       let says = written_says (judged (write_conditions r (length d))) (number_met_lem (write_conditions r (length d))) in
@@ -65,11 +63,11 @@ module _ (r d : List ℕ) where
 module _ (s d : List ℕ) where
   surviving_says : (o : Outcome) {n : Option ℕ}
       → number_of o ≡ n
-      → (surviving_number (surviving_by o s) ≡ n) × (surviving_values (surviving_by o s) ≡ unless_refused n (length (survivors (part s)) ∷ []))
-  surviving_says Accepted e = (e, rw (← e))
-  surviving_says (RefusedBy k) e = (e, rw (← e))
+      → (number_of (surviving_by o s) ≡ n) × (surviving_values (surviving_by o s) ≡ unless_refused n (length (survivors (part s)) ∷ []))
+  surviving_says (Ok done) e = (e, rw (← e))
+  surviving_says (Err why) e = (e, rw (← e))
 
-  pub survivors_promise : {answer : Surviving} {left : List ℕ} → answer ≡ surviving_of s (length d) → left ≡ survivors_buffer s d → SurvivorsPromise s d answer left
+  pub survivors_promise : {answer : Result ℕ Refusal} {left : List ℕ} → answer ≡ surviving_of s (length d) → left ≡ survivors_buffer s d → SurvivorsPromise s d answer left
   unfolding surviving_of survivors_buffer survivors_outcome
   survivors_promise e buffer =
       let says = surviving_says (judged (survivors_conditions s (length d))) (number_met_lem (survivors_conditions s (length d))) in
@@ -83,19 +81,19 @@ module _ (s d : List ℕ) where
 
 -- What a caller has of the buffer where the second call gives a count: so many records are the survivors of the journal's, and they lie in the
 -- buffer, at its start.
-module _ (s d : List ℕ) {n : ℕ} {left : List ℕ} (p : SurvivorsPromise s d (Records n) left) where
-  accepted : survivors_outcome s (length d) ≡ Accepted
+module _ (s d : List ℕ) {n : ℕ} {left : List ℕ} (p : SurvivorsPromise s d (Ok n) left) where
+  accepted : survivors_outcome s (length d) ≡ Ok tt
   unfolding surviving_of
   accepted = go (survivors_outcome s (length d)) p.is
     where
-      go : (o : Outcome) → Records n ≡ surviving_by o s → o ≡ Accepted
-      go Accepted e = refl
-      go (RefusedBy k) e = let z : ◌≡◌ {A = ℕ} 0 1 = cc in absurd (omega arith)
+      go : (o : Outcome) → Ok n ≡ surviving_by o s → o ≡ Ok tt
+      go (Ok done) e = refl
+      go (Err why) e = cc
 
   pub survivors_counted : n ≡ length (survivors (records_of s))
   unfolding surviving_of
   survivors_counted =
-      let e : Records n ≡ Records (length (survivors (part s))) = p.is ∙ rw accepted in
+      let e : Ok n ≡ Ok (length (survivors (part s))) = p.is ∙ rw accepted in
       let same : n ≡ length (survivors (part s)) = cc in
       rw (records_found s (given s (length d) accepted).read) same
 

@@ -10,8 +10,8 @@ use lib.Dec.{eqb}
 use lib.ListN.{length, take, drop, length-drop, take-append-drop}
 use lib.Seq.{take-append_seam, drop-drop}
 use Rattle.words.specs.Buffer.{over}
-use Rattle.journal_rules.specs.declared.Written.TheVariants.{Bytes}
-use Rattle.journal_rules.specs.Journal.{Outcome, Accepted, RefusedBy, u32_at, record_length, most_records, trailer_length, longest_journal, trailer_word, count, distance, first, last, preface, part, record_count, number_at, first_number, last_number, in_order, bad_length, bad_trailer, bad_numbers, read_conditions, read_outcome, found_by, read_of, records_of, trailer_of, journal_of, bad_records, write_conditions, write_outcome, written_by, written_of, buffer_by, buffer_of}
+use Rattle.std.specs.Prelude.{Ok, Err}
+use Rattle.journal_rules.specs.Journal.{Outcome, u32_at, record_length, most_records, trailer_length, longest_journal, trailer_word, count, distance, first, last, preface, part, record_count, number_at, first_number, last_number, in_order, bad_length, bad_trailer, bad_numbers, read_conditions, read_outcome, found_by, read_of, records_of, trailer_of, journal_of, bad_records, write_conditions, write_outcome, written_by, written_of, buffer_by, buffer_of}
 use Rattle.journal_rules.specs.Internal.{Whole}
 use Rattle.journal_rules.specs.RoundTrip.{Finds, ReadsBack, Rewrites, WritesBack}
 use Rattle.journal_rules.proofs.Laws.{journal_length, records_found}
@@ -76,7 +76,7 @@ module _ (r : List ℕ) (bytes : Bytewise r) (w : Whole r) where
 
   -- the journal that a write makes is accepted, and its records are those that were written
   module _ (order : in_order r ≡ true) where
-    written_accepted : read_outcome (journal_of r) ≡ Accepted
+    written_accepted : read_outcome (journal_of r) ≡ Ok tt
     unfolding read_outcome read_conditions
     written_accepted = (accepted_iff (read_conditions (journal_of r))).1 (good_length, (good_trailer, (good_numbers, (simp (is_part, order), tt))))
 
@@ -92,18 +92,18 @@ taken : (p d : List ℕ) (n : ℕ) → n ≡ length p → take n (over p d) ≡ 
 taken p d n e = rw e (take-append_seam p (drop (length p) d))
 
 reads_back_by : (r d : List ℕ) → Bytewise r → (o : Outcome) → write_outcome r (length d) ≡ o → ReadsBack (written_by o r) r (buffer_by o r d)
-reads_back_by r d b Accepted e =
+reads_back_by r d b (Ok done) e =
     let w = writable r (length d) e in
     let same = taken (journal_of r) d (length r + trailer_length) (sym (journal_length r)) in
     subst (λ (s : List ℕ). Finds s r) (sym same) (written_found r b w.records w.order)
-reads_back_by r d b (RefusedBy k) e = tt
+reads_back_by r d b (Err why) e = tt
 
 pub reads_back : (r d : List ℕ) → Bytewise r → ReadsBack (written_of r (length d)) r (buffer_of r d)
 unfolding written_of buffer_of
 reads_back r d b = reads_back_by r d b (write_outcome r (length d)) refl
 
 -- ---- read and written
-module _ (s : List ℕ) (bytes : Bytewise s) (ok : read_outcome s ≡ Accepted) where
+module _ (s : List ℕ) (bytes : Bytewise s) (ok : read_outcome s ≡ Ok tt) where
   split : drop (preface s) s ≡ part s ++ drop (length s - trailer_length) s
   unfolding part
   split =
@@ -133,7 +133,7 @@ module _ (s : List ℕ) (bytes : Bytewise s) (ok : read_outcome s ≡ Accepted) 
   rewritten = sym (split ∙ ap (λ (l : List ℕ). part s ++ l) tail_is)
 
   -- and the write is refused only for room
-  rewritable : (room : ℕ) → distance s + trailer_length ≤ room → write_outcome (part s) room ≡ Accepted
+  rewritable : (room : ℕ) → distance s + trailer_length ≤ room → write_outcome (part s) room ≡ Ok tt
   unfolding write_outcome write_conditions bad_records
   rewritable room h =
       let y = sound s ok in
@@ -151,13 +151,13 @@ module _ (s : List ℕ) (bytes : Bytewise s) (ok : read_outcome s ≡ Accepted) 
       let l = part_length s (sound s ok).shape in
       let n : distance s + trailer_length ≡ length (journal_of (part s)) = let j = journal_length (part s) in omega arith in
       record {
-        accepted = rw (records_found s ok, accept) (ap (λ (k : ℕ). Bytes (k + trailer_length)) l);
+        accepted = rw (records_found s ok, accept) (ap (λ (k : ℕ). Ok (k + trailer_length)) l);
         same = rw (records_found s ok, accept) (taken (journal_of (part s)) d (distance s + trailer_length) n ∙ rewritten);
       }
 
 writes_back_by : (s : List ℕ) → Bytewise s → (o : Outcome) → read_outcome s ≡ o → WritesBack (found_by o s) s
-writes_back_by s b Accepted e = rewrites s b e
-writes_back_by s b (RefusedBy k) e = tt
+writes_back_by s b (Ok done) e = rewrites s b e
+writes_back_by s b (Err why) e = tt
 
 pub writes_back : (s : List ℕ) → Bytewise s → WritesBack (read_of s) s
 unfolding read_of

@@ -1,9 +1,9 @@
--- A trailer that points at records inside the journal, the records by what a read gave, a record that is issued again (N7), and at most 288
--- whole records. No promise cites this.
-use Rattle.std.specs.Prelude.{◌≡◌, Bool, cond, ◌&&◌, List, [], ℕ, ◌+◌, ◌*◌, ◌-◌, ◌%◌, ◌≤◌, eqb, ltb, length, take, drop}
-use Rattle.journal_rules.specs.declared.Found.{Found}
-use Rattle.journal_rules.specs.declared.Found.TheVariants.{Journal, Refused}
-use Rattle.journal_rules.specs.Journal.{record_length, most_records, trailer_length, record_count, number_at, count, distance}
+-- A trailer that points at records inside the journal, the records by what a read gave and one by one, a record that is issued again (N7), and
+-- at most 288 whole records. No promise cites this.
+use Rattle.std.specs.Prelude.{◌≡◌, Bool, cond, ◌&&◌, List, [], ℕ, Result, Ok, Err, ◌+◌, ◌*◌, ◌-◌, ◌%◌, ◌≤◌, eqb, ltb, length, take, drop}
+use Rattle.std.specs.Simd.{first_chunks}
+use Rattle.journal_rules.specs.declared.Contents.{Contents}
+use Rattle.journal_rules.specs.Journal.{Refusal, record_length, most_records, trailer_length, record_count, number_at, count, distance}
 
 -- the trailer points at records that are inside
 pub record Shaped (s : List ℕ) : Type 0 where
@@ -12,13 +12,20 @@ pub record Shaped (s : List ℕ) : Type 0 where
   pub back : distance s ≡ record_length * count s
   pub inside : distance s + trailer_length ≤ length s
 
--- By what a read gave: as many records as it counted, those that end at the trailer; nothing where they and a trailer are longer than
--- the journal, or on a refusal.
-abbrev pub counted_records : Found → List ℕ → List ℕ
-counted_records (Journal count first last) s =
+-- So many records, those that end at the trailer; nothing where they and a trailer are longer than the journal.
+abbrev pub last_records : ℕ → List ℕ → List ℕ
+last_records count s =
     let bytes = record_length * count in
     cond (ltb (length s) (bytes + trailer_length)) [] (take bytes (drop (length s - trailer_length - bytes) s))
-counted_records (Refused k) s = []
+
+-- By what a read gave: as many as it counted, or nothing on a refusal.
+abbrev pub counted_records : Result Contents Refusal → List ℕ → List ℕ
+counted_records (Ok held) s = last_records held.count s
+counted_records (Err why) s = []
+
+-- The records one by one; bytes too few for a record are left out.
+abbrev pub records_in : List ℕ → List (List ℕ)
+records_in r = first_chunks record_length (record_count r) r
 
 -- Record i is issued again: the next one has the same n. In records that are in order this says that it is superseded (proofs/Order
 -- `next_tells`).

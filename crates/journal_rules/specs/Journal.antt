@@ -1,15 +1,10 @@
 -- Document 01, the journal: preface, records and trailer; what a read and a write give, and under which numbers they are refused.
--- Three types here have a variant Refused: that of an outcome is RefusedBy, that of a read Refused, that of a write NotWritten.
-use Rattle.std.specs.Prelude.{Bool, not, cond, ◌&&◌, ◌||◌, List, [], ◌∷◌, ◌++◌, ℕ, ◌+◌, ◌*◌, ◌-◌, ◌/◌, ◌%◌, eqb, ltb, length, take, drop}
-use Rattle.std.proofs.Math.Option.{Option, none, some}
-pub use Rattle.tracker.specs.Promise.{Outcome, Accepted, Refused as RefusedBy, Condition, ◌when◌, judged, number_of, number_met}
+use Rattle.std.specs.Prelude.{Bool, not, cond, ◌&&◌, ◌||◌, List, [], ◌∷◌, ◌++◌, ℕ, Result, Ok, Err, ◌+◌, ◌*◌, ◌-◌, ◌/◌, ◌%◌, eqb, ltb, length, take, drop}
+pub use Rattle.tracker.specs.Promise.{Refusal, BadLength, BadTrailer, BadNumbers, NotInOrder, BadRecords, NoRoom, number, Outcome, number_of, Condition, ◌when◌, judged, number_met}
 unfoldable pub use Rattle.tracker.specs.Promise.{u32_at, each}
 use Rattle.tracker.specs.Promise.{byte_at}
 use Rattle.words.specs.Buffer.{little_of, over}
-use Rattle.journal_rules.specs.declared.Found.{Found}
-use Rattle.journal_rules.specs.declared.Found.TheVariants.{Journal, Refused}
-use Rattle.journal_rules.specs.declared.Written.{Written}
-use Rattle.journal_rules.specs.declared.Written.TheVariants.{Bytes, Refused as NotWritten}
+use Rattle.journal_rules.specs.declared.Contents.{Contents}
 
 -- A record is 168 bytes. A journal is a preface of 0 to 1,024 free bytes, at most 288 records, superseded ones included (N7), and a trailer of 16
 -- bytes; a read takes up to 65,536 bytes.
@@ -98,36 +93,35 @@ bad_numbers first last r = not (eqb first (first_number r)) || not (eqb last (la
 -- 14 a record that does not follow the one before it (N7).
 unfoldable pub read_conditions : List ℕ → List Condition
 read_conditions s =
-    11 when bad_length s
-    ∷ 12 when bad_trailer s
-    ∷ 13 when bad_numbers (first s) (last s) (part s)
-    ∷ 14 when not (in_order (part s))
+    BadLength when bad_length s
+    ∷ BadTrailer when bad_trailer s
+    ∷ BadNumbers when bad_numbers (first s) (last s) (part s)
+    ∷ NotInOrder when not (in_order (part s))
     ∷ []
 
 unfoldable pub read_outcome : List ℕ → Outcome
 read_outcome s = judged (read_conditions s)
 
--- A read gives count, first n, last n, still of all records (N7); a refusal returns only its number.
-abbrev pub found_by : Outcome → List ℕ → Found
-found_by Accepted s = Journal (count s) (first s) (last s)
-found_by (RefusedBy k) s = Refused k
+abbrev pub holding : ℕ → ℕ → ℕ → Contents
+holding count first last = record { count = count; first = first; last = last }
 
-unfoldable pub read_of : List ℕ → Found
+-- A read gives count, first n, last n, still of all records (N7); a refusal returns only its number.
+abbrev pub found_by : Outcome → List ℕ → Result Contents Refusal
+found_by (Ok done) s = Ok (holding (count s) (first s) (last s))
+found_by (Err why) s = Err why
+
+unfoldable pub read_of : List ℕ → Result Contents Refusal
 read_of s = found_by (read_outcome s) s
 
--- The number and the values of each answer of a read: count, first n, last n without a number, or only a number.
-abbrev pub found_number : Found → Option ℕ
-found_number (Journal count first last) = none
-found_number (Refused k) = some k
-
-abbrev pub found_values : Found → List ℕ
-found_values (Journal count first last) = count ∷ first ∷ last ∷ []
-found_values (Refused k) = []
+-- The values of each answer of a read, beside its number (number_of): count, first n, last n, or none.
+abbrev pub found_values : Result Contents Refusal → List ℕ
+found_values (Ok held) = held.count ∷ held.first ∷ held.last ∷ []
+found_values (Err why) = []
 
 -- And the records, as the part of the lent journal that holds them; on a refusal it has length 0.
 abbrev pub records_by : Outcome → List ℕ → List ℕ
-records_by Accepted s = part s
-records_by (RefusedBy k) s = []
+records_by (Ok done) s = part s
+records_by (Err why) s = []
 
 unfoldable pub records_of : List ℕ → List ℕ
 records_of s = records_by (read_outcome s) s
@@ -145,35 +139,31 @@ bad_records r = not (eqb (length r % record_length) 0) || ltb most_records (reco
 
 unfoldable pub write_conditions : List ℕ → ℕ → List Condition
 write_conditions r room =
-    15 when bad_records r
-    ∷ 14 when not (in_order r)
-    ∷ 16 when ltb room (length r + trailer_length)
+    BadRecords when bad_records r
+    ∷ NotInOrder when not (in_order r)
+    ∷ NoRoom when ltb room (length r + trailer_length)
     ∷ []
 
 unfoldable pub write_outcome : List ℕ → ℕ → Outcome
 write_outcome r room = judged (write_conditions r room)
 
 -- A write gives the number of bytes written; a refusal returns only its number.
-abbrev pub written_by : Outcome → List ℕ → Written
-written_by Accepted r = Bytes (length r + trailer_length)
-written_by (RefusedBy k) r = NotWritten k
+abbrev pub written_by : Outcome → List ℕ → Result ℕ Refusal
+written_by (Ok done) r = Ok (length r + trailer_length)
+written_by (Err why) r = Err why
 
-unfoldable pub written_of : List ℕ → ℕ → Written
+unfoldable pub written_of : List ℕ → ℕ → Result ℕ Refusal
 written_of r room = written_by (write_outcome r room) r
 
--- The number and the values of each answer of a write: the number of bytes written without a refusal's number, or only that.
-abbrev pub written_number : Written → Option ℕ
-written_number (Bytes n) = none
-written_number (NotWritten k) = some k
-
-abbrev pub written_values : Written → List ℕ
-written_values (Bytes n) = n ∷ []
-written_values (NotWritten k) = []
+-- The values of each answer of a write, beside its number: how many bytes are written, or none.
+abbrev pub written_values : Result ℕ Refusal → List ℕ
+written_values (Ok n) = n ∷ []
+written_values (Err why) = []
 
 -- The lent buffer afterwards: on success bytes after the journal keep their values, on a refusal all do.
 abbrev pub buffer_by : Outcome → List ℕ → List ℕ → List ℕ
-buffer_by Accepted r d = over (journal_of r) d
-buffer_by (RefusedBy k) r d = d
+buffer_by (Ok done) r d = over (journal_of r) d
+buffer_by (Err why) r d = d
 
 unfoldable pub buffer_of : List ℕ → List ℕ → List ℕ
 buffer_of r d = buffer_by (write_outcome r (length d)) r d

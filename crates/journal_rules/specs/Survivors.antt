@@ -1,13 +1,9 @@
 -- Document 02, N7: for each n the record of highest issue, and the second call of the journal, which writes these records to a lent buffer.
--- The variant Refused of its answer is NotGiven here.
-use Rattle.std.specs.Prelude.{Bool, not, cond, ◌&&◌, ◌≡◌, ℕ, zero, suc, ◌+◌, ◌*◌, ◌<◌, ◌≤◌, eqb, ltb, length, take, drop, get_or}
+use Rattle.std.specs.Prelude.{Bool, not, cond, ◌&&◌, ◌≡◌, ℕ, zero, suc, Result, Ok, Err, ◌+◌, ◌*◌, ◌<◌, ◌≤◌, eqb, ltb, length, take, drop, get_or}
 use mathlib.Core.List.{List, [], ◌∷◌, ◌++◌, flatten}
-use Rattle.std.proofs.Math.Option.{Option, none, some}
 use Rattle.tracker.specs.Promise.{record_number, issue}
 use Rattle.words.specs.Buffer.{over}
-use Rattle.journal_rules.specs.declared.Surviving.{Surviving}
-use Rattle.journal_rules.specs.declared.Surviving.TheVariants.{Records, Refused as NotGiven}
-use Rattle.journal_rules.specs.Journal.{Outcome, Accepted, RefusedBy, Condition, ◌when◌, judged, each, record_length, record_count, number_at, issue_at, first_number, part, read_conditions}
+use Rattle.journal_rules.specs.Journal.{Refusal, NoRoom, Outcome, Condition, ◌when◌, judged, each, record_length, record_count, number_at, issue_at, first_number, part, read_conditions}
 
 -- Record i of records end to end.
 abbrev pub record_at : List ℕ → ℕ → List ℕ
@@ -31,32 +27,28 @@ survivors r = survivors_from r 0 (record_count r)
 
 -- The second call, with a buffer of length room: it refuses as a read does, then with 16, output too short for the survivors.
 unfoldable pub survivors_conditions : List ℕ → ℕ → List Condition
-survivors_conditions s room = read_conditions s ++ (16 when ltb room (length (flatten (survivors (part s)))) ∷ [])
+survivors_conditions s room = read_conditions s ++ (NoRoom when ltb room (length (flatten (survivors (part s)))) ∷ [])
 
 unfoldable pub survivors_outcome : List ℕ → ℕ → Outcome
 survivors_outcome s room = judged (survivors_conditions s room)
 
 -- It gives their count; a refusal returns only its number.
-abbrev pub surviving_by : Outcome → List ℕ → Surviving
-surviving_by Accepted s = Records (length (survivors (part s)))
-surviving_by (RefusedBy k) s = NotGiven k
+abbrev pub surviving_by : Outcome → List ℕ → Result ℕ Refusal
+surviving_by (Ok done) s = Ok (length (survivors (part s)))
+surviving_by (Err why) s = Err why
 
-unfoldable pub surviving_of : List ℕ → ℕ → Surviving
+unfoldable pub surviving_of : List ℕ → ℕ → Result ℕ Refusal
 surviving_of s room = surviving_by (survivors_outcome s room) s
 
--- The number and the values of each of its answers: the count without a refusal's number, or only that.
-abbrev pub surviving_number : Surviving → Option ℕ
-surviving_number (Records n) = none
-surviving_number (NotGiven k) = some k
-
-abbrev pub surviving_values : Surviving → List ℕ
-surviving_values (Records n) = n ∷ []
-surviving_values (NotGiven k) = []
+-- The values of each of its answers, beside its number: the count, or none.
+abbrev pub surviving_values : Result ℕ Refusal → List ℕ
+surviving_values (Ok n) = n ∷ []
+surviving_values (Err why) = []
 
 -- The lent buffer afterwards: the survivors end to end at its start, and bytes after them keep their values; on a refusal all do.
 abbrev pub survivors_buffer_by : Outcome → List ℕ → List ℕ → List ℕ
-survivors_buffer_by Accepted s d = over (flatten (survivors (part s))) d
-survivors_buffer_by (RefusedBy k) s d = d
+survivors_buffer_by (Ok done) s d = over (flatten (survivors (part s))) d
+survivors_buffer_by (Err why) s d = d
 
 unfoldable pub survivors_buffer : List ℕ → List ℕ → List ℕ
 survivors_buffer s d = survivors_buffer_by (survivors_outcome s (length d)) s d

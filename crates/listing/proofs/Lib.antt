@@ -5,3 +5,4 @@ pub mod LineLength
 mod LinesByCase
 pub mod ListingLength
 mod RefusalNumbers
+mod SoFar

@@ -4,16 +4,17 @@ use mathlib.Core.Path.{◌≡◌, refl, ap, sym, ◌∙◌}
 use mathlib.Core.Bool.{Bool, true, false, cond}
 use mathlib.Core.List.{List, [], ◌∷◌, ◌++◌, map, flatten}
 use mathlib.Core.Option.{Option}
-use Prim.Native.Nat.{ℕ, ◌+◌, ◌*◌, ◌-◌, ◌<◌, ◌≤◌}
+use Prim.Native.Nat.{ℕ, ◌+◌, ◌<◌, ◌≤◌}
 use native.Mathlib.Omega.{arith}
-use lib.ListN.{length, take, drop}
-use Rattle.journal_rules.specs.declared.Found.{Found}
-use Rattle.journal_rules.specs.declared.Found.TheVariants.{Journal, Refused as NotRead}
+use lib.ListN.{length}
+use Rattle.std.specs.Prelude.{Result, Ok, Err}
+use Rattle.journal_rules.specs.declared.Contents.{Contents}
 use Rattle.journal_rules.specs.Journal.{record_count, in_order, read_of, records_of}
 use Rattle.journal_rules.specs.Survivors.{record_at, survivors}
-use Rattle.journal_rules.specs.Internal.{issued_again}
+use Rattle.journal_rules.specs.Internal.{last_records, counted_records, issued_again}
+use Rattle.journal_rules.proofs.Accept.{counted_records_lem, records_ordered}
 use Rattle.journal_rules.proofs.Survivors as S
-use Rattle.tracker.specs.Promise.{Row, Answer, Accepted, Refused, Opening, OpenPromise, CallAfter, number_of, worked_from}
+use Rattle.tracker.specs.Promise.{Refusal, number, Row, Answer, Opening, OpenPromise, CallAfter, number_of, worked_from}
 use Rattle.listing.specs.Line.{line_of, listed_of}
 use Rattle.listing.specs.Internal.{row_text}
 use Rattle.listing.specs.Listing.{if_listed, eight_rows, call_lines, ended_by, run_lines, opened_at, opened_lines, record_lines, body_lines}
@@ -41,28 +42,26 @@ pub rest_none : (o : Opening) (r : List ℕ) (i : ℕ) (passed : List (List ℕ)
 unfolding run_lines
 rest_none o r i passed h = rw (S.rest_none r i h)
 
--- one record's turn, where it is not issued again: by the promise of its call, on the record b as the code takes it out
+-- one record's turn
 module _ (o : Opening) (r : List ℕ) (order : in_order r ≡ true) (i : ℕ) (h : i < record_count r) (passed : List (List ℕ)) where
   -- one that is issued again gives no line
   pub pass_over : issued_again r i ≡ true → rest o r i passed ≡ rest o r (i + 1) passed
   pass_over e = ap (run_lines o passed) (S.again r order i h e)
 
-  module _ (survives : issued_again r i ≡ false) {b : List ℕ} {a : Answer} (is : b ≡ take (168 * i + 168 - 168 * i) (drop (168 * i) r)) (call : CallAfter o passed b a) where
+  -- and one that is not gives those of its call
+  module _ (survives : issued_again r i ≡ false) {a : Answer} (call : CallAfter o passed (record_at r i) a) where
     abbrev upto : List (List ℕ)
-    upto = passed ++ (b ∷ [])
+    upto = passed ++ (record_at r i ∷ [])
 
     turn : {m : Option ℕ} → number_of a.outcome ≡ m → rest o r i passed ≡ call_lines m (eight_rows (worked_from o upto)) (rest o r (i + 1) upto)
     unfolding run_lines
-    turn e =
-        let k : 168 * i + 168 - 168 * i ≡ 168 = omega arith in
-        let taken : record_at r i ≡ b = sym (is ∙ ap (λ (k : ℕ). take k (drop (168 * i) r)) k) in
-        rw (S.not_again r order i h survives, taken, sym call.number ∙ e) refl
+    turn e = rw (S.not_again r order i h survives, sym call.number ∙ e) refl
 
-    pub go_on : a.outcome ≡ Accepted → rest o r i passed ≡ eight_rows (worked_from o upto) ++ rest o r (i + 1) upto
+    pub go_on : a.outcome ≡ Ok tt → rest o r i passed ≡ eight_rows (worked_from o upto) ++ rest o r (i + 1) upto
     go_on e = turn (ap number_of e)
 
-    pub go_off : (k : ℕ) → a.outcome ≡ Refused k → rest o r i passed ≡ ended_by k
-    go_off k e = turn (ap number_of e)
+    pub go_off : (why : Refusal) → a.outcome ≡ Err why → rest o r i passed ≡ ended_by (number why)
+    go_off why e = turn (ap number_of e)
 
 -- what the records give, by the opening's outcome
 module _ (first : ℕ) (bs : List (List ℕ)) {a : Answer} (p : OpenPromise (opened_at first) a) where
@@ -70,14 +69,14 @@ module _ (first : ℕ) (bs : List (List ℕ)) {a : Answer} (p : OpenPromise (ope
   unfolding opened_lines
   by_number e = rw (sym p.number ∙ e)
 
-  pub opened : a.outcome ≡ Accepted → opened_lines first bs ≡ run_lines (opened_at first) [] bs
+  pub opened : a.outcome ≡ Ok tt → opened_lines first bs ≡ run_lines (opened_at first) [] bs
   opened e = by_number (ap number_of e)
 
-  pub unopened : (k : ℕ) → a.outcome ≡ Refused k → opened_lines first bs ≡ ended_by k
-  unopened k e = by_number (ap number_of e)
+  pub unopened : (why : Refusal) → a.outcome ≡ Err why → opened_lines first bs ≡ ended_by (number why)
+  unopened why e = by_number (ap number_of e)
 
-pub no_records : (first : ℕ) (r : List ℕ) → length r < 168 → record_lines first (survivors r) ≡ []
-unfolding record_lines
+pub no_records : (first : ℕ) (r : List ℕ) → length r < 168 → flatten (record_lines first (survivors r)) ≡ []
+unfolding record_lines flatten
 no_records first r l = let none : record_count r ≤ 0 = omega arith in rw (S.rest_all r, S.rest_none r 0 none)
 
 pub some_records : (first : ℕ) (r : List ℕ) → in_order r ≡ true → 168 ≤ length r → record_lines first (survivors r) ≡ opened_lines first (survivors r)
@@ -89,11 +88,16 @@ some_records first r order l = go (survivors r) (S.some_survive r order (omega a
     go (b ∷ bs) h = refl
 
 -- what follows the header, by what a read finds
-module _ (s : List ℕ) (f : Found) (is : f ≡ read_of s) where
-  pub found : {count first last : ℕ} → f ≡ Journal count first last → body_lines s ≡ record_lines first (survivors (records_of s))
+module _ (s : List ℕ) where
+  pub read_some : (held : Contents) → Ok held ≡ read_of s → body_lines s ≡ record_lines held.first (survivors (last_records held.count s))
   unfolding body_lines
-  found e = rw (← is, e)
+  read_some held e =
+      let records : records_of s ≡ last_records held.count s = sym (counted_records_lem s) ∙ ap (λ (found : Result Contents Refusal). counted_records found s) (sym e) in
+      rw (← e, records)
 
-  pub unread : {k : ℕ} → f ≡ NotRead k → body_lines s ≡ ended_by k
+  pub read_ordered : (held : Contents) → Ok held ≡ read_of s → in_order (last_records held.count s) ≡ true
+  read_ordered held e = ap (λ (found : Result Contents Refusal). in_order (counted_records found s)) e ∙ rw (counted_records_lem s) (records_ordered s)
+
+  pub read_none : (why : Refusal) → Err why ≡ read_of s → body_lines s ≡ ended_by (number why)
   unfolding body_lines
-  unread e = rw (← is, e)
+  read_none why e = rw (← e)

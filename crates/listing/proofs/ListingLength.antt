@@ -2,36 +2,44 @@
 -- Assumes nothing.
 use mathlib.Core.Path.{◌≡◌, refl}
 use mathlib.Core.Bool.{Bool, true, false, cond}
-use mathlib.Core.List.{List, [], ◌∷◌, ◌++◌, map, flatten}
+use mathlib.Core.List.{List, [], ◌∷◌, ◌++◌, map, flatten, append-nil}
 use mathlib.Core.Option.{Option, none, some}
 use Prim.Native.Nat.{ℕ, suc, ◌+◌, ◌*◌, ◌<◌, ◌≤◌}
 use native.Mathlib.Omega.{arith}
-use lib.ListN.{length, get_or, replicate, length-append}
+use lib.ListN.{length, get_or, length-append}
 use Rattle.words.proofs.Parts.{flatten-append}
+use Rattle.text.specs.Ascii.{ascii}
+use Rattle.text.specs.Text.{number_cell}
 use Rattle.text.proofs.Decimal.{short_count}
-use Rattle.journal_rules.specs.declared.Found.{Found}
-use Rattle.journal_rules.specs.declared.Found.TheVariants.{Journal, Refused as NotRead}
+use Rattle.std.specs.Prelude.{Result, Ok, Err}
+use Rattle.journal_rules.specs.declared.Contents.{Contents}
 use Rattle.journal_rules.specs.Journal.{read_of, records_of}
 use Rattle.journal_rules.specs.Survivors.{survivors}
 use Rattle.journal_rules.proofs.Accept.{records_whole}
 use Rattle.journal_rules.proofs.Survivors.{no_more}
-use Rattle.tracker.specs.Promise.{Row, RowBounds, no_row, document01, Opening, number_met, interval_conditions, awaited_from, of_directions, worked_from}
+use Rattle.tracker.specs.Promise.{Refusal, Row, RowBounds, no_row, Opening, number, number_met, open_conditions, interval_conditions, awaited_from, of_directions, worked_from}
 use Rattle.listing.specs.Line.{newline, line_of, listed_of}
 use Rattle.listing.specs.Internal.{row_text}
 use Rattle.listing.specs.Listing.{header, eight_rows, call_lines, refused_line, ended_by, run_lines, opened_at, opening_number, opened_lines, record_lines, read_lines, body_lines, input_lines, lines_of, listing_of, longest_line, longest_listing}
 use Rattle.listing.proofs.LinesByCase.{printed}
 use Rattle.listing.proofs.LineLength.{line_short}
-use Rattle.listing.proofs.EightDirections.{worked_eight}
-use Rattle.listing.proofs.RefusalNumbers.{open_number, interval_number, read_number}
+use Rattle.listing.proofs.EightDirections.{worked_bounded}
+use Rattle.listing.proofs.RefusalNumbers.{two_digits, met_two_digits}
 
 -- all records of a journal, eight lines for each
 abbrev most : ℕ
 most = 288 * (8 * longest_line)
 
 -- a refusal's line: its number has at most two digits
-ended_short : (k : ℕ) → k ≤ 99 → length (flatten (ended_by k)) ≤ 11
+pub ended_parts : (k : ℕ) → flatten (ended_by k) ≡ ascii "refused," ++ number_cell k newline
 unfolding flatten refused_line
-ended_short k h = simp length-append (omega (arith, short_count 1 k newline (omega arith)))
+ended_parts k = simp append-nil
+
+pub refusal_short : (why : Refusal) → length (number_cell (number why) newline) ≤ 3
+refusal_short why = let h = two_digits why in short_count 1 (number why) newline (omega arith)
+
+ended_short : (k : ℕ) → k ≤ 99 → length (flatten (ended_by k)) ≤ 11
+ended_short k h = rw (ended_parts k) (simp length-append (omega (arith, short_count 1 k newline (omega arith))))
 
 row_short : (r : Row) → length (line_of r) ≤ longest_line → (t : Bool) → length (cond t (line_of r) []) ≤ longest_line
 row_short r h true = h
@@ -57,7 +65,7 @@ call_short none small own following h l n fits room = rw (flatten-append own fol
 call_short (some k) small own following h l n fits room = let e = ended_short k (small k refl) in omega arith
 
 eight_short : (o : Opening) (calls : List (List ℕ)) → length (flatten (eight_rows (worked_from o calls))) ≤ 8 * longest_line
-eight_short o calls = rw (printed (of_directions (worked_from o calls))) (rows_short (of_directions (worked_from o calls)) (worked_eight o calls refl).bounded)
+eight_short o calls = rw (printed (of_directions (worked_from o calls))) (rows_short (of_directions (worked_from o calls)) (worked_bounded o calls))
 
 run_short : (o : Opening) (passed bs : List (List ℕ)) → length (flatten (run_lines o passed bs)) ≤ 8 * longest_line * length bs
 unfolding run_lines flatten
@@ -65,26 +73,26 @@ run_short o passed [] = omega arith
 run_short o passed (b ∷ bs) =
     let upto = passed ++ (b ∷ []) in
     let awaited = awaited_from o passed in
-    call_short (number_met (interval_conditions awaited b)) (interval_number awaited b) _ _ (eight_short o _) (run_short o upto bs) (8 * longest_line * suc (length bs)) (omega arith) (omega arith)
+    call_short (number_met (interval_conditions awaited b)) (met_two_digits (interval_conditions awaited b)) _ _ (eight_short o _) (run_short o upto bs) (8 * longest_line * suc (length bs)) (omega arith) (omega arith)
 
 opened_short : (first : ℕ) (bs : List (List ℕ)) → length bs ≤ 288 → length (flatten (opened_lines first bs)) ≤ most
 unfolding opened_lines flatten
 opened_short first bs few =
     let o = opened_at first in
-    call_short (opening_number o) (open_number first (replicate 6 500) document01) [] (run_lines o [] bs) {a = 0} (omega arith) (run_short o [] bs) most (omega arith) (omega arith)
+    call_short (opening_number o) (met_two_digits (open_conditions o.first o.shares o.settings)) [] (run_lines o [] bs) {a = 0} (omega arith) (run_short o [] bs) most (omega arith) (omega arith)
 
 records_short : (first : ℕ) (bs : List (List ℕ)) → length bs ≤ 288 → length (flatten (record_lines first bs)) ≤ most
 unfolding record_lines flatten
 records_short first [] few = omega arith
 records_short first (b ∷ bs) few = opened_short first (b ∷ bs) few
 
-read_short : (f : Found) → ((k : ℕ) → f ≡ NotRead k → k ≤ 99) → (bs : List (List ℕ)) → length bs ≤ 288 → length (flatten (read_lines f bs)) ≤ most
-read_short (Journal count first last) small bs few = records_short first bs few
-read_short (NotRead k) small bs few = let b = ended_short k (small k refl) in omega arith
+read_short : (found : Result Contents Refusal) → (bs : List (List ℕ)) → length bs ≤ 288 → length (flatten (read_lines found bs)) ≤ most
+read_short (Ok held) bs few = records_short held.first bs few
+read_short (Err why) bs few = let b = ended_short (number why) (two_digits why) in omega arith
 
 pub body_short : (s : List ℕ) → length (flatten (body_lines s)) ≤ most
 unfolding body_lines
-body_short s = read_short (read_of s) (read_number s) (survivors (records_of s)) (omega (arith, no_more (records_of s), (records_whole s).few))
+body_short s = read_short (read_of s) (survivors (records_of s)) (omega (arith, no_more (records_of s), (records_whole s).few))
 
 input_short : (s : List ℕ) (more : Bool) → length (flatten (input_lines s more)) ≤ most
 unfolding input_lines
@@ -92,6 +100,10 @@ input_short s true = let b = ended_short 11 (omega arith) in omega arith
 input_short s false = body_short s
 
 -- with the header's 62 bytes
+pub listing_parts : (s : List ℕ) (more : Bool) → listing_of s more ≡ header ++ flatten (input_lines s more)
+unfolding lines_of flatten
+listing_parts s more = refl
+
 pub listing_short : (s : List ℕ) (more : Bool) → length (listing_of s more) ≤ longest_listing
-unfolding lines_of flatten header
-listing_short s more = omega (arith, input_short s more, length-append header (flatten (input_lines s more)))
+unfolding header
+listing_short s more = rw (listing_parts s more) (omega (arith, input_short s more, length-append header (flatten (input_lines s more))))

@@ -1,19 +1,16 @@
--- What the code keeps in tables and puts for a row. No promise cites this.
-use Rattle.std.specs.Prelude.{cond, ◌≡◌, ℕ, ◌<◌, length, get_or, take}
-use mathlib.Core.List.{List, [], ◌++◌, map, flatten}
-use Rattle.text.specs.Ascii.{ascii}
-use Rattle.tracker.specs.Promise.{Row, RowBounds, no_row}
-use Rattle.listing.specs.Line.{names, line_of, listed_of}
-
--- The names end to end, each with its comma and, where it is shorter, a space up to ten bytes.
-abbrev pub kept_names : List ℕ
-kept_names = flatten (map (λ s. take 10 (ascii s ++ ascii ", ")) names)
+-- What the code puts for a row, and for the rows of a tracker. No promise cites this.
+use Rattle.std.specs.Prelude.{cond, ℕ}
+use mathlib.Core.List.{List, [], map, flatten}
+use Rattle.tracker.specs.Promise.{Tracker, Row, of_directions, row_answer}
+use Rattle.listing.specs.Line.{line_of, listed_of}
 
 -- What the code puts for a row: its line, where the row is printed, and else nothing.
 abbrev pub row_text : Row → List ℕ
 row_text r = cond (listed_of r) (line_of r) []
 
--- Eight rows, by direction, of which each is bounded.
-pub record EightBounded (rows : List Row) : Type 0 where
-  pub eight : length rows ≡ 8
-  pub bounded : (d : ℕ) → d < 8 → RowBounds (get_or rows d no_row)
+-- A tracker's rows, and what the code puts for them.
+abbrev pub rows_shown : Tracker → List Row
+rows_shown t = of_directions (λ d. (row_answer t d).row)
+
+abbrev pub rows_text : Tracker → List ℕ
+rows_text t = flatten (map row_text (rows_shown t))

@@ -1,14 +1,12 @@
 -- Document 01, `clampday`: the listing of its input, line by line, from the opening and the surviving records (N7) alone. Nothing here reads a
 -- tracker.
--- A read's variant Refused is NotRead here.
-use Rattle.std.specs.Prelude.{◌≡◌, Bool, cond, ℕ, ◌+◌, ◌*◌, ◌≤◌, nat_lt, length, take, replicate}
+use Rattle.std.specs.Prelude.{◌≡◌, Bool, cond, Result, Ok, Err, ℕ, ◌+◌, ◌*◌, ◌≤◌, nat_lt, length, take, replicate}
 use mathlib.Core.List.{List, [], ◌∷◌, ◌++◌, map, flatten}
 use Rattle.std.proofs.Math.Option.{Option, none, some}
 use Rattle.text.specs.Ascii.{ascii}
 use Rattle.text.specs.Text.{number_cell}
-use Rattle.tracker.specs.Promise.{Row, Opening, opening, number_met, open_conditions, interval_conditions, awaited_from, of_directions, worked_from}
-use Rattle.journal_rules.specs.declared.Found.{Found}
-use Rattle.journal_rules.specs.declared.Found.TheVariants.{Journal, Refused as NotRead}
+use Rattle.tracker.specs.Promise.{Row, Refusal, number, Opening, opening, number_met, open_conditions, interval_conditions, awaited_from, of_directions, worked_from}
+use Rattle.journal_rules.specs.declared.Contents.{Contents}
 use Rattle.journal_rules.specs.Journal.{most_records, read_of, records_of}
 use Rattle.journal_rules.specs.Survivors.{survivors}
 use Rattle.listing.specs.Line.{newline, line_of, listed_of}
@@ -65,9 +63,9 @@ record_lines first (b ∷ bs) = opened_lines first (b ∷ bs)
 
 -- After the read: what the records give, or its number. They are the surviving ones, for each n that of highest issue: sums and periods for a
 -- journal are theirs, and a superseded record is not run (N7).
-abbrev pub read_lines : Found → List (List ℕ) → List (List ℕ)
-read_lines (Journal count first last) bs = record_lines first bs
-read_lines (NotRead k) bs = ended_by k
+abbrev pub read_lines : Result Contents Refusal → List (List ℕ) → List (List ℕ)
+read_lines (Ok held) bs = record_lines held.first bs
+read_lines (Err why) bs = ended_by (number why)
 
 unfoldable pub body_lines : List ℕ → List (List ℕ)
 body_lines journal = read_lines (read_of journal) (survivors (records_of journal))

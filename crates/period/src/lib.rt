@@ -7,7 +7,7 @@ ghost use Rattle.rules.specs.Interval.{started, extends, continued, ended, rule4
 ghost use Rattle.rules.specs.Refusal.{highest_number};
 ghost use Rattle.rules.specs.Bounds.{BoundedPeriod};
 
-use rules::{Managed, Period};
+use rules::{Managed, Notice, Period};
 
 // No period and reached: from the next interval to the end of the next half-hour.
 fn started(n: u32, reach: bool) -> Managed
@@ -21,12 +21,12 @@ fn started(n: u32, reach: bool) -> Managed
                 last: 6 * (n / 6) + 11,
                 extended: false,
             },
-            notice: 1,
+            notice: Some(Notice::Start),
         }
     } else {
         Managed {
             period: Period::None,
-            notice: 0,
+            notice: None,
         }
     }
 }
@@ -36,13 +36,7 @@ fn extends(n: u32, last: u32, extended: bool) -> bool
     requires { n ≤ highest_number }
     ensures { result ≡ extends n last extended }
 {
-    if n % 6 == 5 {
-        return true;
-    }
-    if last == 6 * (n / 6) + 5 {
-        return !extended;
-    }
-    false
+    n % 6 == 5 || last == 6 * (n / 6) + 5 && !extended
 }
 
 // In a period with flag 0 it ends with the half-hour; otherwise, if reached, it may grow.
@@ -50,30 +44,13 @@ fn continued(n: u32, flag: bool, reach: bool, first: u32, last: u32, extended: b
     requires { (n ≤ highest_number) × (last ≤ n + 11) }
     ensures { result ≡ continued n flag reach first last extended }
 {
-    if flag {
-        if reach {
-            if extends(n, last, extended) {
-                return Period::Held {
-                    first,
-                    last: last + 6,
-                    extended: true,
-                };
-            }
-        }
-        return Period::Held {
-            first,
-            last,
-            extended,
-        };
-    }
-    let end = 6 * (n / 6) + 5;
-    if end < last {
-        return Period::Held {
-            first,
-            last: end,
-            extended,
-        };
-    }
+    let (last, extended) = if !flag {
+        (last.min(6 * (n / 6) + 5), extended)
+    } else if reach && extends(n, last, extended) {
+        (last + 6, true)
+    } else {
+        (last, extended)
+    };
     Period::Held {
         first,
         last,
@@ -86,26 +63,14 @@ fn ended(n: u32, p: Period) -> Managed
     ensures { result ≡ ended n p }
 {
     match p {
-        Period::None => Managed {
+        Period::Held { last, .. } if last == n => Managed {
             period: Period::None,
-            notice: 0,
+            notice: Some(Notice::End),
         },
-        Period::Held {
-            first: _,
-            last,
-            extended: _,
-        } => {
-            if last == n {
-                return Managed {
-                    period: Period::None,
-                    notice: 2,
-                };
-            }
-            Managed {
-                period: p,
-                notice: 0,
-            }
-        }
+        _ => Managed {
+            period: p,
+            notice: None,
+        },
     }
 }
 
@@ -127,12 +92,5 @@ pub fn rule4(n: u32, flag: bool, reach: bool, p: Period) -> Managed
 pub fn held(p: Period) -> bool
     ensures { result ≡ held p }
 {
-    match p {
-        Period::None => false,
-        Period::Held {
-            first: _,
-            last: _,
-            extended: _,
-        } => true,
-    }
+    matches!(p, Period::Held { .. })
 }

@@ -2,11 +2,11 @@
 -- Assumes nothing.
 use mathlib.Core.Bool.{Bool, true, false, cond, false≢true}
 use mathlib.Core.Path.{◌≡◌, refl, sym, ap, subst, ◌∙◌}
+use Rattle.std.specs.Prelude.{Option, Some, None}
 use Rattle.tracker.specs.Promise.{negative, Row}
 use Rattle.readers.specs.declared.TraderView.{TraderView}
-use Rattle.readers.specs.declared.TraderView.TheVariants.{None, Shown}
 use Rattle.readers.specs.declared.ControlView.{ControlView}
-use Rattle.readers.specs.Views.{trader_view, control_view, row_shown, Alike, shows_anything, ShowsFields}
+use Rattle.readers.specs.Views.{seven_fields, trader_view, control_view, row_shown, Alike, shows_anything, ShowsFields}
 use Rattle.readers.specs.Promise.{TraderPromise, ControlPromise}
 
 -- Two rows alike in those seven fields give the trader the same view.
@@ -15,11 +15,11 @@ unfolding trader_view
 alike_same r s a = simp (a.n, a.direction, a.applies, a.amount, a.previous, a.current, a.next) refl
 
 -- Of a view that shows something, shown in one case only.
-any_if : (b : Bool) (view : TraderView) → shows_anything view ≡ true → shows_anything (cond b view None) ≡ b
+any_if : (b : Bool) (view : Option TraderView) → shows_anything view ≡ true → shows_anything (cond b view None) ≡ b
 any_if true view any = any
 any_if false view any = refl
 
-fields_if : (r : Row) (b : Bool) (view : TraderView) → ShowsFields r view → ShowsFields r (cond b view None)
+fields_if : (r : Row) (b : Bool) (view : Option TraderView) → ShowsFields r view → ShowsFields r (cond b view None)
 fields_if r true view fields = fields
 fields_if r false view fields = tt
 
@@ -34,7 +34,7 @@ unfolding trader_view
 shows_fields r = fields_if r (negative r.amount.0) _ (record { n = refl; direction = refl; applies = refl; amount = refl; previous = refl; current = refl; next = refl })
 
 -- What the trader's reader shows, by cases.
-pub shown_below_zero : (r : Row) → negative r.amount.0 ≡ true → trader_view r ≡ Shown r.n r.direction r.applies r.amount r.previous r.current r.next
+pub shown_below_zero : (r : Row) → negative r.amount.0 ≡ true → trader_view r ≡ Some (seven_fields r)
 unfolding trader_view
 shown_below_zero r below = rw below refl
 
@@ -43,9 +43,9 @@ unfolding trader_view
 none_else r not-below = rw not-below refl
 
 -- One view of two rows that shows anything shows seven fields in which they are alike.
-of_both : (r s : Row) (view : TraderView) → ShowsFields r view → ShowsFields s view → shows_anything view ≡ true → Alike r s
+of_both : (r s : Row) (view : Option TraderView) → ShowsFields r view → ShowsFields s view → shows_anything view ≡ true → Alike r s
 of_both r s None x y some = absurd (false≢true some)
-of_both r s (Shown n direction applies amount previous current next) x y some =
+of_both r s (Some view) x y some =
     record {
       n = sym y.n ∙ x.n;
       direction = sym y.direction ∙ x.direction;
@@ -70,7 +70,7 @@ pub control_tells : (r s : Row) → control_view r ≡ control_view s → r ≡ 
 control_tells r s e = sym (all_shown r) ∙ ap row_shown e ∙ all_shown s
 
 -- what the equations of the readers bring with them
-pub trader_promise : (r : Row) {view : TraderView} → view ≡ trader_view r → TraderPromise r view
+pub trader_promise : (r : Row) {view : Option TraderView} → view ≡ trader_view r → TraderPromise r view
 trader_promise r e = rw e (record { is = refl; if_negative = shown_if_negative r; fields = shows_fields r; alike = alike_same r; told = view_tells r })
 
 pub control_promise : (r : Row) {view : ControlView} → view ≡ control_view r → ControlPromise r view

@@ -2,11 +2,11 @@
 -- Assumes nothing.
 use mathlib.Core.Bool.{Bool, true, false}
 use mathlib.Core.Path.{◌≡◌, refl}
-use Prim.Native.Nat.{ℕ}
 use lib.IntN.{ℤ, pos}
-use Rattle.tracker.specs.Promise.{minus, cents, hundredths, grains, Cents, Hundredths, Grains, Row, Period, Held, Counts, no_row}
-use Rattle.readers.specs.declared.TraderView.TheVariants.{None as NothingShown, Shown}
-use Rattle.readers.specs.Views.{trader_view, control_view}
+use Rattle.std.specs.Prelude.{Option, Some, None}
+use Rattle.tracker.specs.Promise.{Notice, End, minus, cents, hundredths, grains, Cents, Hundredths, Grains, Row, Period, Held, Counts, no_row}
+use Rattle.readers.specs.declared.TraderView.{TraderView}
+use Rattle.readers.specs.Views.{trader_view, control_view, row_shown}
 
 -- A row of VIC1_SA1, clamped, with an amount: no two of its numbers are the same.
 abbrev clamped : ℤ → Row
@@ -25,18 +25,30 @@ clamped amount = record {
   blocked = true;
   flag = false;
   clamp = hundredths (pos 392488);
-  notice = 3;
+  notice = Some End;
   leftover = grains (minus 1200000);
+}
+
+-- Its seven fields.
+abbrev seen : ℤ → TraderView
+seen amount = record {
+  n = 11;
+  direction = 4;
+  applies = true;
+  amount = cents amount;
+  previous = cents (minus 9000000);
+  current = cents (minus 2000000);
+  next = cents (minus 500000);
 }
 
 pub for_the_trader :
     trader_view (clamped (minus 11000000))
-    ≡ Shown 11 4 true (cents (minus 11000000)) (cents (minus 9000000)) (cents (minus 2000000)) (cents (minus 500000))
+    ≡ Some (seen (minus 11000000))
 unfolding trader_view
 for_the_trader = refl
 
 pub for_the_control_room :
-    let view = control_view (clamped (minus 11000000)) in
+    let view = row_shown (control_view (clamped (minus 11000000))) in
     (view.n ≡ 11)
     × (view.direction ≡ 4)
     × (view.residue ≡ cents (minus 700000))
@@ -51,28 +63,28 @@ pub for_the_control_room :
     × (view.blocked ≡ true)
     × (view.flag ≡ false)
     × (view.clamp ≡ hundredths (pos 392488))
-    × (view.notice ≡ 3)
+    × (view.notice ≡ Some End)
     × (view.leftover ≡ grains (minus 1200000))
 unfolding control_view
 for_the_control_room = (refl, refl, refl, refl, refl, refl, refl, refl, refl, refl, refl, refl, refl, refl, refl, refl)
 
 -- One cent is shown.
-pub one_cent : trader_view (clamped (minus 1)) ≡ Shown 11 4 true (cents (minus 1)) (cents (minus 9000000)) (cents (minus 2000000)) (cents (minus 500000))
+pub one_cent : trader_view (clamped (minus 1)) ≡ Some (seen (minus 1))
 unfolding trader_view
 one_cent = refl
 
 -- Amount 0 is not, though a clamp applies and next is negative: the listing has such rows. The amount's own field decides, and nothing else does.
-pub nothing_at_zero : trader_view (clamped (pos 0)) ≡ NothingShown
+pub nothing_at_zero : trader_view (clamped (pos 0)) ≡ None
 unfolding trader_view
 nothing_at_zero = refl
 
 -- Nor is the row beside number 17.
-pub nothing_beside_17 : trader_view no_row ≡ NothingShown
+pub nothing_beside_17 : trader_view no_row ≡ None
 unfolding trader_view
 nothing_beside_17 = refl
 
 -- A row r with other values where the trader does not look.
-abbrev elsewhere : Row → Cents → Cents → Period → Counts → Bool → Bool → Hundredths → ℕ → Grains → Row
+abbrev elsewhere : Row → Cents → Cents → Period → Counts → Bool → Bool → Hundredths → Option Notice → Grains → Row
 elsewhere r residue net period counts blocked flag clamp notice leftover = record {
   n = r.n;
   direction = r.direction;
@@ -93,7 +105,7 @@ elsewhere r residue net period counts blocked flag clamp notice leftover = recor
 }
 
 -- Whatever clamp, counts and period a row holds, and the other six, the trader's view is the same.
-pub others_unseen : (r : Row) (residue net : Cents) (period : Period) (counts : Counts) (blocked flag : Bool) (clamp : Hundredths) (notice : ℕ) (leftover : Grains)
+pub others_unseen : (r : Row) (residue net : Cents) (period : Period) (counts : Counts) (blocked flag : Bool) (clamp : Hundredths) (notice : Option Notice) (leftover : Grains)
     → trader_view (elsewhere r residue net period counts blocked flag clamp notice leftover) ≡ trader_view r
 unfolding trader_view
 others_unseen r residue net period counts blocked flag clamp notice leftover = refl

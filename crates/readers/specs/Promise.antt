@@ -1,5 +1,5 @@
 -- What the two readers promise of every row: what they show, and, beside any other row, what can be told from it (N6).
-use Rattle.std.specs.Prelude.{true, ◌≡◌}
+use Rattle.std.specs.Prelude.{true, ◌≡◌, Option}
 use Rattle.tracker.specs.Promise.{negative, Row}
 use Rattle.readers.specs.declared.TraderView.{TraderView}
 use Rattle.readers.specs.declared.ControlView.{ControlView}
@@ -7,7 +7,7 @@ use Rattle.readers.specs.Views.{trader_view, control_view, row_shown, Alike, sho
 
 -- The trader's reader returns what document 02 says of a row r: something exactly if the amount is negative, and then the row's fields. A row s
 -- alike in the seven fields gives the trader the same view; two views that show anything are equal only if those seven fields are.
-pub record TraderPromise (r : Row) (view : TraderView) : Type 0 where
+pub record TraderPromise (r : Row) (view : Option TraderView) : Type 0 where
   pub is : view ≡ trader_view r
   pub if_negative : shows_anything view ≡ negative r.amount.0
   pub fields : ShowsFields r view

@@ -3,68 +3,48 @@
 
 #![tactic(auto)]
 
-ghost use Rattle.std.specs.Prelude.{◌≡◌, ◌+◌, ◌*◌, ◌<◌, ◌≤◌, nat_abs, length};
-ghost use Rattle.std.specs.Io.{ReadsAtMost};
-ghost use Rattle.tracker.specs.Promise.{Came, RowBounds, WithinHalfCent, highest_sum};
-ghost use Rattle.readers.specs.Views.{row_shown};
+ghost use Rattle.std.specs.Prelude.{ℕ, ◌+◌, ◌*◌, ◌<◌, ◌≤◌, ◌^◌, nat_abs, length, IfOk};
+ghost use Rattle.rules.specs.declared.Answer.{Answer};
+ghost use Rattle.rules.specs.declared.Row.{Row};
+ghost use Rattle.tracker.specs.Promise.{Came, RowBounds, highest_sum};
 
-use journal_rules::{Found, Surviving};
-use readers::{ControlView, TraderView};
-use rules::{Answer, DirectionSettings, Outcome, Period, RECORD, Row, Settings, Tracker};
-use std::rt::Files;
-use std::{fs, io};
-use units::{Cents, Grains, Hundredths};
+use readers::ControlView;
+use rules::{Answer, DirectionSettings, Period, RECORD, Refusal, Row, Settings, Tracker};
+use std::alloc::Alloc;
+use std::array::from_fn;
+use std::rt::{Env, Files};
+use std::{env, fs, io};
+use units::{Cents, Hundredths, Quantity};
+use words::FromEnd;
 
-// Whose view of a row is printed (N6).
-#[derive(Clone, Copy)]
-pub enum Reader {
-    Trader,
-    Control,
-}
+// No number that is printed is longer, with the byte that ends it.
+const CELL: usize = 32;
 
-// A number and the byte that ends it.
+// A number and the byte that ends it. Crate `text` puts it, as it does the listing's, so that the gate compares its digits here too.
 pub fn print_number(rt: &impl Print, n: u64, end: u8) -> io::Result<()> {
-    let mut out = [0u8; 32];
-    let from = text::number(n, end, &mut out, 32);
-    rt.write_all(&out[from..])
+    let mut room = [0; CELL];
+    let mut cell = FromEnd::new(&mut room);
+    text::number(n, end, &mut cell);
+    rt.write_all(cell.as_slice())
 }
 
 fn print_bool(rt: &impl Print, flag: bool) -> io::Result<()> {
-    if flag {
-        print_number(rt, 1, b',')
-    } else {
-        print_number(rt, 0, b',')
-    }
+    print_number(rt, u64::from(flag), b',')
 }
 
-fn print_cents(rt: &impl Print, z: Cents, end: u8) -> io::Result<()>
-    requires { nat_abs z.0 ≤ highest_sum }
+// An amount, a flow or a leftover, and the byte that ends it.
+fn print_quantity<Q: Quantity>(rt: &impl Print, z: Q, end: u8) -> io::Result<()>
+    requires { nat_abs (Q.whole z) ≤ highest_sum }
 {
-    let mut out = [0u8; 32];
-    let from = text::cents(z, end, &mut out, 32);
-    rt.write_all(&out[from..])
-}
-
-fn print_hundredths(rt: &impl Print, z: Hundredths) -> io::Result<()>
-    requires { nat_abs z.0 ≤ 2000000 }
-{
-    let mut out = [0u8; 32];
-    let from = text::hundredths(z, b',', &mut out, 32);
-    rt.write_all(&out[from..])
-}
-
-// A leftover, which ends its line.
-fn print_grains(rt: &impl Print, z: Grains) -> io::Result<()>
-    requires { WithinHalfCent z }
-{
-    let mut out = [0u8; 32];
-    let from = text::grains(z, b'\n', &mut out, 32);
-    rt.write_all(&out[from..])
+    let mut room = [0; CELL];
+    let mut cell = FromEnd::new(&mut room);
+    text::quantity(z, end, &mut cell);
+    rt.write_all(cell.as_slice())
 }
 
 // Held or not, first, last, extended; no period is four zeros.
-fn print_period(rt: &impl Print, p: Period) -> io::Result<()> {
-    match p {
+fn print_period(rt: &impl Print, period: Period) -> io::Result<()> {
+    match period {
         Period::None => rt.write_all(b"0,0,0,0,"),
         Period::Held {
             first,
@@ -72,163 +52,88 @@ fn print_period(rt: &impl Print, p: Period) -> io::Result<()> {
             extended,
         } => {
             rt.write_all(b"1,")?;
-            print_number(rt, first as u64, b',')?;
-            print_number(rt, last as u64, b',')?;
+            print_number(rt, u64::from(first), b',')?;
+            print_number(rt, u64::from(last), b',')?;
             print_bool(rt, extended)
         }
     }
 }
 
-// The fields of a control view after its period, to the line's end: the leftover is the last.
-fn print_after_period(rt: &impl Print, view: ControlView) -> io::Result<()>
-    requires { RowBounds (row_shown view) }
-{
-    let counts = view.counts;
-    let clamp = view.clamp;
-    let leftover = view.leftover;
-    print_number(rt, counts.unbound as u64, b',')?;
-    print_number(rt, counts.violated as u64, b',')?;
-    print_bool(rt, view.blocked)?;
-    print_bool(rt, view.flag)?;
-    print_hundredths(rt, clamp)?;
-    print_number(rt, view.notice as u64, b',')?;
-    print_grains(rt, leftover)
-}
-
-// Every field of a control view, in one line.
-fn print_control(rt: &impl Print, view: ControlView) -> io::Result<()>
-    requires { RowBounds (row_shown view) }
-{
-    let residue = view.residue;
-    let previous = view.previous;
-    let current = view.current;
-    let amount = view.amount;
-    let next = view.next;
-    let net = view.net;
-    let period = view.period;
-    print_number(rt, view.n as u64, b',')?;
-    print_number(rt, view.direction as u64, b',')?;
-    print_cents(rt, residue, b',')?;
-    print_bool(rt, view.applies)?;
-    print_cents(rt, previous, b',')?;
-    print_cents(rt, current, b',')?;
-    print_cents(rt, amount, b',')?;
-    print_cents(rt, next, b',')?;
-    print_cents(rt, net, b',')?;
-    print_period(rt, period)?;
-    print_after_period(rt, view)
-}
-
 // A row in one line, as the control reader shows it: every field.
-pub fn print_row(rt: &impl Print, r: Row) -> io::Result<()>
-    requires { RowBounds r }
+pub fn print_row(rt: &impl Print, row: Row) -> io::Result<()>
+    requires { RowBounds row }
 {
-    print_control(rt, readers::control(r))
+    let ControlView(shown) = readers::control(row);
+    print_number(rt, u64::from(shown.n), b',')?;
+    print_number(rt, shown.direction as u64, b',')?;
+    print_quantity(rt, shown.residue, b',')?;
+    print_bool(rt, shown.applies)?;
+    print_quantity(rt, shown.previous, b',')?;
+    print_quantity(rt, shown.current, b',')?;
+    print_quantity(rt, shown.amount, b',')?;
+    print_quantity(rt, shown.next, b',')?;
+    print_quantity(rt, shown.net, b',')?;
+    print_period(rt, shown.period)?;
+    print_number(rt, u64::from(shown.counts.unbound), b',')?;
+    print_number(rt, u64::from(shown.counts.violated), b',')?;
+    print_bool(rt, shown.blocked)?;
+    print_bool(rt, shown.flag)?;
+    print_quantity(rt, shown.clamp, b',')?;
+    print_number(rt, shown.notice.map_or(0, |notice| notice as u64), b',')?;
+    print_quantity(rt, shown.leftover, b'\n')
 }
 
 // A row in one line, as the trader's reader shows it: `none`, or the seven fields.
-fn print_for_trader(rt: &impl Print, r: Row) -> io::Result<()>
-    requires { RowBounds r }
+pub fn print_for_trader(rt: &impl Print, row: Row) -> io::Result<()>
+    requires { RowBounds row }
 {
-    let view = readers::trader(r);
-    match view {
-        TraderView::None => rt.write_all(b"none\n"),
-        TraderView::Shown {
-            n,
-            direction,
-            applies,
-            amount,
-            previous,
-            current,
-            next,
-        } => {
-            print_number(rt, n as u64, b',')?;
-            print_number(rt, direction as u64, b',')?;
-            print_bool(rt, applies)?;
-            print_cents(rt, amount, b',')?;
-            print_cents(rt, previous, b',')?;
-            print_cents(rt, current, b',')?;
-            print_cents(rt, next, b'\n')
-        }
-    }
+    let Some(shown) = readers::trader(row) else {
+        return rt.write_all(b"none\n");
+    };
+    print_number(rt, u64::from(shown.n), b',')?;
+    print_number(rt, shown.direction as u64, b',')?;
+    print_bool(rt, shown.applies)?;
+    print_quantity(rt, shown.amount, b',')?;
+    print_quantity(rt, shown.previous, b',')?;
+    print_quantity(rt, shown.current, b',')?;
+    print_quantity(rt, shown.next, b'\n')
 }
 
-// A row in one line, as a reader shows it.
-fn print_seen(rt: &impl Print, r: Row, reader: Reader) -> io::Result<()>
-    requires { RowBounds r }
-{
-    match reader {
-        Reader::Trader => print_for_trader(rt, r),
-        Reader::Control => print_row(rt, r),
-    }
-}
-
-pub fn print_refusal(rt: &impl Print, number: u8) -> io::Result<()> {
+pub fn print_refusal(rt: &impl Print, why: Refusal) -> io::Result<()> {
     rt.write_all(b"refused,")?;
-    print_number(rt, number as u64, b'\n')
-}
-
-// The eight rows of a tracker.
-fn print_rows(rt: &impl Print, t: Tracker, reader: Reader) -> io::Result<()>
-    requires { Came t }
-{
-    for d in 0..8 {
-        let a = tracker::row(t, d);
-        print_seen(rt, a.row, reader)?;
-    }
-    Ok(())
-}
-
-// The rows after each record in its turn, up to a refusal.
-fn run(rt: &impl Print, t: Tracker, records: &[u8], reader: Reader) -> io::Result<()>
-    requires { Came t }
-{
-    let mut now = t;
-    let mut at = 0;
-    while records.len() - at >= RECORD {
-        let end = at + RECORD;
-        let a = tracker::interval(now, &records[at..end]);
-        let outcome = a.outcome;
-        match outcome {
-            Outcome::Refused(number) => return print_refusal(rt, number),
-            Outcome::Accepted => {}
-        }
-        now = a.tracker;
-        print_rows(rt, now, reader)?;
-        at = end;
-    }
-    Ok(())
+    print_number(rt, u64::from(u8::from(why)), b'\n')
 }
 
 // As long as the most records of a journal are.
-const MOST_BYTES: usize = 48384;
+const MOST_BYTES: usize = 288 * RECORD;
 
-// The rows of the surviving records of a journal (N7), which the second call gives.
-fn run_survivors(rt: &impl Print, t: Tracker, journal: &[u8], reader: Reader) -> io::Result<()>
-    requires { Came t }
+// All eight rows after each surviving record of a journal (N7), which the second call gives, up to a refusal.
+fn run_survivors<F: Fn(Row) -> io::Result<()>>(
+    rt: &impl Print,
+    t: Tracker,
+    journal: &[u8],
+    print: F,
+) -> io::Result<()>
+    requires came { Came t }
+    requires prints { (row : Row) → RowBounds row → F.pre print row }
 {
     let mut records = [0u8; MOST_BYTES];
-    let given = journal::survivors(journal, &mut records);
-    match given {
-        Surviving::Records(count) => run(rt, t, &records[..RECORD * count as usize], reader),
-        Surviving::Refused(number) => print_refusal(rt, number),
+    let count = match journal::survivors(journal, &mut records) {
+        Ok(count) => count as usize,
+        Err(why) => return print_refusal(rt, why),
+    };
+    let mut now = t;
+    for bytes in records.chunks_exact(RECORD).take(count) {
+        let answer = tracker::interval(now, bytes);
+        if let Err(why) = answer.outcome {
+            return print_refusal(rt, why);
+        }
+        now = answer.tracker;
+        for d in 0..8 {
+            print(tracker::row(&now, d).row)?;
+        }
     }
-}
-
-// What an opening answered, and the surviving records of a journal after it: all rows, as a reader shows them, or a refusal.
-pub fn print_opened(
-    rt: &impl Print,
-    opened: Answer,
-    journal: &[u8],
-    reader: Reader,
-) -> io::Result<()>
-    requires { Came opened.tracker }
-{
-    let outcome = opened.outcome;
-    if let Outcome::Refused(number) = outcome {
-        return print_refusal(rt, number);
-    }
-    run_survivors(rt, opened.tracker, journal, reader)
+    Ok(())
 }
 
 // The header of rows as the control reader shows them.
@@ -239,87 +144,58 @@ pub fn print_header(rt: &impl Print) -> io::Result<()> {
     rt.write_all(b"unbound,violated,blocked,flag,clamp,notice,leftover\n")
 }
 
-// What a read finds in a journal: a refusal is printed.
-pub fn print_found(rt: &impl Print, bytes: &[u8]) -> io::Result<Found> {
-    let found = journal::read(bytes);
-    if let Found::Refused(number) = found {
-        print_refusal(rt, number)?;
-    }
-    Ok(found)
-}
-
-// All eight rows after each interval of a journal, opened as clampday opens it, as a reader shows them.
-pub fn print_journal(rt: &impl Print, bytes: &[u8], reader: Reader) -> io::Result<()> {
-    let found = print_found(rt, bytes)?;
-    if let Found::Journal {
-        count,
-        first,
-        last: _,
-    } = found
-    {
-        if count != 0 {
-            let opened = tracker::open(first, [500; 6]);
-            return print_opened(rt, opened, bytes, reader);
-        }
-    }
-    Ok(())
-}
-
-// Number k of bytes that hold i32.
-fn int_at(bytes: &[u8], k: usize) -> i64
-    requires { 4 * k + 4 ≤ length bytes.now }
+// All eight rows after each interval of a journal, on the tracker that is opened at its first n, or a refusal. The caller says how the tracker
+// is opened, and prints each row as a reader shows it.
+pub fn print_journal<O: Fn(u32) -> Answer, F: Fn(Row) -> io::Result<()>>(
+    rt: &impl Print,
+    journal: &[u8],
+    opened_at: O,
+    print: F,
+) -> io::Result<()>
+    requires opens { (first : ℕ) → first < 2 ^ 32 → O.pre opened_at first }
+    requires came { (first : ℕ) (opened : Answer) → first < 2 ^ 32 → O.post opened_at first opened → Came opened.tracker }
+    requires prints { (row : Row) → RowBounds row → F.pre print row }
 {
-    let u = words::u32_at(bytes, 4 * k) as i64;
-    if u < 2_147_483_648 {
-        return u;
+    let contents = match journal::read(journal) {
+        Ok(contents) => contents,
+        Err(why) => return print_refusal(rt, why),
+    };
+    if contents.count == 0 {
+        return Ok(());
     }
-    u - 4_294_967_296
+    let opened = opened_at(contents.first);
+    match opened.outcome {
+        Ok(()) => run_survivors(rt, opened.tracker, journal, print),
+        Err(why) => print_refusal(rt, why),
+    }
 }
 
-fn cents_at(bytes: &[u8], k: usize) -> Cents
-    requires { 4 * k + 4 ≤ length bytes.now }
-{
-    Cents(int_at(bytes, k))
-}
+// The length of settings in bytes: 44 i32.
+pub const SETTINGS: usize = 176;
 
-fn hundredths_at(bytes: &[u8], k: usize) -> Hundredths
-    requires { 4 * k + 4 ≤ length bytes.now }
+// Number k of settings in bytes.
+fn int_at(bytes: &[u8; SETTINGS], k: usize) -> i64
+    requires { k < 44 }
 {
-    Hundredths(int_at(bytes, k))
+    words::i32_at(bytes, 4 * k)
 }
 
 // What settings in bytes have for direction d: 32 steps, four for each, stand before the eight offsets.
-fn direction_settings_in(bytes: &[u8], d: usize) -> DirectionSettings
-    requires { (length bytes.now ≡ 176) × (d < 8) }
+fn direction_settings_in(bytes: &[u8; SETTINGS], d: usize) -> DirectionSettings
+    requires { d < 8 }
 {
-    let steps = [
-        hundredths_at(bytes, 4 * d + 4),
-        hundredths_at(bytes, 4 * d + 5),
-        hundredths_at(bytes, 4 * d + 6),
-        hundredths_at(bytes, 4 * d + 7),
-    ];
-    let offset = hundredths_at(bytes, d + 36);
     DirectionSettings {
-        steps: steps,
-        offset: offset,
+        steps: from_fn(|band| Hundredths(int_at(bytes, 4 + 4 * d + band))),
+        offset: Hundredths(int_at(bytes, 36 + d)),
     }
 }
 
 // Settings as 44 i32: the threshold, three edges, the steps by direction, the offsets.
-pub fn settings_in(bytes: &[u8]) -> Settings
-    requires { length bytes.now ≡ 176 }
-{
-    let threshold = cents_at(bytes, 0);
-    let edges = [cents_at(bytes, 1), cents_at(bytes, 2), cents_at(bytes, 3)];
-    let mut directions = [direction_settings_in(bytes, 0); 8];
-    for d in 1..8 {
-        let own = direction_settings_in(bytes, d);
-        directions[d] = own;
-    }
+pub fn settings_in(bytes: &[u8; SETTINGS]) -> Settings {
     Settings {
-        threshold: threshold,
-        edges: edges,
-        directions: directions,
+        threshold: Cents(int_at(bytes, 0)),
+        edges: from_fn(|edge| Cents(int_at(bytes, 1 + edge))),
+        directions: from_fn(|d| direction_settings_in(bytes, d)),
     }
 }
 
@@ -328,6 +204,22 @@ pub fn print_argument(rt: &impl Print, name: &str) -> io::Result<()> {
     rt.write_all(b"== ")?;
     rt.write_all(name.as_bytes())?;
     rt.write_all(b"\n")
+}
+
+// Runs a case for each two arguments of the program, which name its files. One without a second is run with an empty name, which no file has.
+pub fn run_cases<R: Env + Alloc, F: Fn(&str, &str) -> io::Result<()>>(
+    rt: &R,
+    case: F,
+) -> io::Result<()>
+    requires { F.IsAlwaysCallable case }
+{
+    let mut names = env::args(rt)?.skip(1);
+    while let Some(first) = names.next() {
+        let second = names.next();
+        let second = second.as_ref().map_or("", |name| name.as_str());
+        case(first.as_str(), second)?;
+    }
+    Ok(())
 }
 
 // The file that an argument names, open for reading. Where it is not there, a line that no case has says so, and the error goes up: it must not
@@ -340,10 +232,15 @@ pub fn open_argument<R: Files + Print>(rt: &R, name: &str) -> io::Result<R::File
     opened
 }
 
-// The bytes of the file that an argument names, at the start of the buffer, and how many there are.
-pub fn read_argument<R: Files + Print>(rt: &R, name: &str, buffer: &mut [u8]) -> io::Result<usize>
-    ensures { ReadsAtMost result buffer.new }
+// The bytes of the file that an argument names, which are put at the start of the buffer.
+pub fn read_argument<'a, R: Files + Print>(
+    rt: &R,
+    name: &str,
+    buffer: &'a mut [u8],
+) -> io::Result<&'a [u8]>
+    ensures { IfOk result (λ bytes. length bytes.now ≤ length buffer.old) }
 {
     let mut file = open_argument(rt, name)?;
-    listing::read_full(&mut file, buffer)
+    let n = listing::read_full(&mut file, buffer)?;
+    Ok(&buffer[..n])
 }

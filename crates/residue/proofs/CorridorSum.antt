@@ -1,54 +1,58 @@
--- What a loop over a corridor's lines has summed, and the residue that the definition makes of the whole.
+-- What a loop over a corridor's lines has summed before line i.
 -- Assumes nothing.
 use mathlib.Core.Path.{◌≡◌}
-use mathlib.Core.List.{List, []}
-use Prim.Native.Nat.{ℕ, ◌≤◌}
+use mathlib.Core.List.{List}
+use Prim.Native.Nat.{ℕ, ◌+◌, ◌≤◌, ◌<◌}
 use native.Mathlib.Nat as N
+use native.Mathlib.Numerals.{add-one}
+use native.Mathlib.Omega.{arith}
 use lib.Dec.{lit≤}
-use lib.IntN.{ℤ, nat_abs}
-use lib.ListN.{get_or}
+use lib.IntN.{nat_abs}
 use Rattle.signed.specs.Range.{negative}
 use Rattle.units.specs.declared.Cents.{Cents}
 use Rattle.units.specs.declared.Grains.{Grains}
 use Rattle.units.specs.declared.Hundredths.{Hundredths}
-use Rattle.units.specs.Units.{hundredths, grains}
-use Rattle.rules.specs.declared.Corridor.{Corridor}
-use Rattle.rules.specs.declared.CorridorResidue.{CorridorResidue}
+use Rattle.units.specs.Units.{hundredths, grains, ◌+ᵍ◌, ◌+ʰ◌}
 use Rattle.rules.specs.declared.Line.{Line}
-use Rattle.rules.specs.Residue.{grains_of, in_cents, sum_from, price, line}
+use Rattle.rules.specs.Market.{corridor}
+use Rattle.rules.specs.Residue.{sum_from, line, line_grains, in_cents, corridor_residue}
+use Rattle.rules.proofs.Corridors.{in_table_lem}
 use Rattle.residue.specs.Internal.{InRange, highest_corridor_grains}
 use Rattle.residue.proofs.LineBounds.{line_in_range, line_small, sum_small}
 
-module _ (p q : Cents) (shares : List ℕ) (lines : List Line) where
-  -- the grains and the a of line i, at the prices p and q
-  abbrev pub grains_at : ℕ → ℤ
-  grains_at i = (grains_of p q (get_or shares i 0) (line [] shares lines i)).0
+module _ (prices : List Cents) (shares : List ℕ) (lines : List Line) (c : ℕ) where
+  -- the sums over the corridor's first j lines, of which line i is the next
+  pub record Summed (i : ℕ) (sum : Grains) (flow : Hundredths) : Type 0 where
+    pub j : ℕ
+    pub few : j ≤ (corridor c).lines
+    pub next : i ≡ (corridor c).first + j
+    pub grains_are : sum ≡ grains (sum_from (corridor c).first j (λ i. (line_grains prices shares lines c i).0))
+    pub flow_is : flow ≡ hundredths (sum_from (corridor c).first j (λ i. (line prices shares lines i).a.0))
 
-  abbrev pub flow_at : ℕ → ℤ
-  flow_at i = (line [] shares lines i).a.0
+module _ {prices : List Cents} {shares : List ℕ} {lines : List Line} {c i : ℕ} {sum : Grains} {flow : Hundredths} (s : Summed prices shares lines c i sum flow) where
+  -- one line more
+  pub one_more : i < (corridor c).first + (corridor c).lines → Summed prices shares lines c (i + 1) (sum +ᵍ line_grains prices shares lines c i) (flow +ʰ (line prices shares lines i).a)
+  one_more inside = record {
+    j = s.j + 1;
+    few = omega arith;
+    next = omega arith;
+    grains_are = rw (add-one, s.grains_are, s.next);
+    flow_is = rw (add-one, s.flow_is, s.next);
+  }
 
-  -- the loop after j turns
-  pub record Summed (first j : ℕ) (sum : Grains) (flow : Hundredths) : Type 0 where
-    pub grains_are : sum ≡ grains (sum_from first j grains_at)
-    pub flow_is : flow ≡ hundredths (sum_from first j flow_at)
+  -- the sums are small, since a corridor has two lines at most
+  module _ (h : InRange prices shares lines) where
+    few : s.j ≤ 2
+    few = omega (arith, (in_table_lem c).few)
 
--- the definition, of the corridor that the table gives
-module _ (prices : List Cents) (shares : List ℕ) (lines : List Line) where
-  abbrev pub corridor_residue_of : Corridor → CorridorResidue
-  corridor_residue_of r =
-      let p = price prices shares lines r.to in
-      let q = price prices shares lines r.from in
-      record {
-        residue = in_cents (grains (sum_from r.first r.lines (grains_at p q shares lines)));
-        reverse = negative (sum_from r.first r.lines (flow_at p q shares lines));
-      }
+    pub sum_so_far : nat_abs sum.0 ≤ highest_corridor_grains
+    sum_so_far = rw s.grains_are (sum_small (corridor c).first s.j _ few (λ i. line_small (line_in_range h (corridor c).to (corridor c).from i)))
 
--- what is summed after j turns, two at most, between the regions `to` and `from`
-module _ {prices : List Cents} {shares : List ℕ} {lines : List Line} (h : InRange prices shares lines) (to from first j : ℕ) (few : j ≤ 2) where
-  pub grains_so_far : (sum : Grains) → sum ≡ grains (sum_from first j (grains_at (price prices shares lines to) (price prices shares lines from) shares lines))
-      → nat_abs sum.0 ≤ highest_corridor_grains
-  grains_so_far sum is = rw is (sum_small first j _ few (λ i. line_small (line_in_range h to from i)))
+    pub flow_so_far : nat_abs flow.0 ≤ highest_corridor_grains
+    flow_so_far = rw s.flow_is (sum_small (corridor c).first s.j _ few (λ i. N.le_trans (h.flow i) (lit≤ tt)))
 
-  pub flow_so_far : (flow : Hundredths) → flow ≡ hundredths (sum_from first j (flow_at (price prices shares lines to) (price prices shares lines from) shares lines))
-      → nat_abs flow.0 ≤ highest_corridor_grains
-  flow_so_far flow is = rw is (sum_small first j _ few (λ i. N.le_trans (h.flow i) (lit≤ tt)))
+  -- after the last line they are the corridor's
+  pub all_lines : (corridor c).first + (corridor c).lines ≤ i → record { residue = in_cents sum; reverse = negative flow.0 } ≡ corridor_residue prices shares lines c
+  all_lines last =
+      let all : s.j ≡ (corridor c).lines = omega (arith, s.few) in
+      rw (s.grains_are, s.flow_is, all)

@@ -5,7 +5,7 @@ use Rattle.units.specs.declared.Cents.{Cents}
 use Rattle.units.specs.Units.{cents}
 use Rattle.rules.specs.declared.Corridor.{Corridor}
 use Rattle.rules.specs.declared.Line.{Line}
-use Rattle.rules.specs.Market.{corridor}
+use Rattle.rules.specs.Market.{region_number, corridor}
 use Rattle.rules.specs.Residue.{line, no_residue}
 use Rattle.std.specs.Bool.{beq}
 use Rattle.rules.specs.declared.CorridorResidue.{CorridorResidue}
@@ -14,8 +14,8 @@ use Rattle.rules.specs.declared.Residue.{Residue}
 -- A corridor's regions are among the four; it has at most two of the six physical interconnectors.
 pub record IsCorridor (c : ℕ) (r : Corridor) : Type 0 where
   pub is : r ≡ corridor c
-  pub from : r.from < 4
-  pub to : r.to < 4
+  pub from : region_number r.from < 4
+  pub to : region_number r.to < 4
   pub few : r.lines ≤ 2
   pub last : r.first + r.lines ≤ 6
 

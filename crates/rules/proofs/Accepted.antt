@@ -8,12 +8,12 @@ use Prim.Native.Nat.{ℕ, ◌≤◌, ◌<◌}
 use borrow.Author.Tests.{eqb-true, eq-eqb, ltb-false, le-ltb, leb-true, le-leb, not-false}
 use lib.Dec.{eqb, ltb}
 use lib.ListN.{length, get_or}
-use Rattle.rules.specs.declared.Outcome.{Outcome}
-use Rattle.rules.specs.declared.Outcome.TheVariants.{Accepted, Refused}
+use Rattle.std.specs.Prelude.{Ok, Err}
 use Rattle.rules.specs.declared.Settings.{Settings}
 use Rattle.rules.specs.Interval.{place}
 use Rattle.rules.specs.Record.{record_number}
-use Rattle.rules.specs.Refusal.{number_of, Condition, judged, number_met, is_accepted, each, highest_number, bad_flags, bad_status, bad_price, bad_flow, bad_pre_dispatch, interval_conditions, interval_outcome, share_ok, inside_spans, rising, open_conditions, open_outcome}
+use Rattle.rules.specs.declared.Refusal.{Refusal}
+use Rattle.rules.specs.Refusal.{Outcome, number_of, Condition, judged, number_met, is_accepted, each, highest_number, bad_flags, bad_status, bad_price, bad_flow, bad_pre_dispatch, interval_conditions, interval_outcome, share_ok, inside_spans, rising, open_conditions, open_outcome}
 use Rattle.rules.specs.Tracker.{Opening, opens, accepts}
 use Rattle.rules.proofs.EachBelow.{both_false, each_at, each_by}
 
@@ -23,30 +23,30 @@ NoneMet [] = Unit
 NoneMet (c ∷ cs) = (c.met ≡ false) × NoneMet cs
 
 -- The first condition met, as listed, gives the number; without one the call is accepted.
-pub accepted_iff : (cs : List Condition) → (judged cs ≡ Accepted) ↔ NoneMet cs
+pub accepted_iff : (cs : List Condition) → (judged cs ≡ Ok tt) ↔ NoneMet cs
 accepted_iff [] = (λ _. tt, λ _. refl)
 accepted_iff (c ∷ cs) = go c.met (accepted_iff cs)
   where
     go : (m : Bool)
-        → (judged cs ≡ Accepted) ↔ NoneMet cs
-        → (cond m (Refused c.number) (judged cs) ≡ Accepted) ↔ ((m ≡ false) × NoneMet cs)
+        → (judged cs ≡ Ok tt) ↔ NoneMet cs
+        → (cond m (Err c.refusal) (judged cs) ≡ Ok tt) ↔ ((m ≡ false) × NoneMet cs)
     go true rest = (λ e. absurd (false≢true (ap is_accepted e)), λ n. absurd (false≢true (sym n.0)))
     go false rest = (λ e. (refl, rest.0 e), λ n. rest.1 n.1)
 
 -- The number of an outcome is that of the first condition met.
 pub number_met_lem : (cs : List Condition) → number_of (judged cs) ≡ number_met cs
 number_met_lem [] = refl
-number_met_lem (c ∷ cs) = go c.met c.number (number_met_lem cs)
+number_met_lem (c ∷ cs) = go c.met c.refusal (number_met_lem cs)
   where
-    go : (m : Bool) (k : ℕ)
+    go : (m : Bool) (k : Refusal)
         → number_of (judged cs) ≡ number_met cs
-        → number_of (judged (record { met = m; number = k } ∷ cs)) ≡ number_met (record { met = m; number = k } ∷ cs)
+        → number_of (judged (record { met = m; refusal = k } ∷ cs)) ≡ number_met (record { met = m; refusal = k } ∷ cs)
     go true k rest = refl
     go false k rest = rest
 
-is_accepted_lem : (o : Outcome) → is_accepted o ≡ true → o ≡ Accepted
-is_accepted_lem Accepted e = refl
-is_accepted_lem (Refused k) e = absurd (false≢true e)
+is_accepted_lem : (o : Outcome) → is_accepted o ≡ true → o ≡ Ok tt
+is_accepted_lem (Ok done) e = refl
+is_accepted_lem (Err k) e = absurd (false≢true e)
 
 none_met : (cs : List Condition) → is_accepted (judged cs) ≡ true → NoneMet cs
 none_met cs e = (accepted_iff cs).0 (is_accepted_lem (judged cs) e)

@@ -11,21 +11,22 @@ use lib.Dec.{ltb, leb}
 use lib.IntN.{ℤ, nat_abs}
 use lib.ListN.{get_or}
 use Rattle.signed.proofs.Calc.{abs-add}
+use Rattle.rules.specs.declared.Region.TheVariants.{Nsw1}
 use Rattle.rules.specs.declared.Corridor.{Corridor}
-use Rattle.rules.specs.Market.{corridors, corridor}
+use Rattle.rules.specs.Market.{region_number, corridors, corridor}
 use Rattle.rules.specs.Residue.{sum_from, over_lines}
 use Rattle.rules.proofs.EachBelow.{both_true}
 
 -- A corridor's regions are among the four; it has at most two of the six physical interconnectors.
 pub record InTable (r : Corridor) : Type 0 where
-  pub from : r.from < 4
-  pub to : r.to < 4
+  pub from : region_number r.from < 4
+  pub to : region_number r.to < 4
   pub few : r.lines ≤ 2
   pub last : r.first + r.lines ≤ 6
 
 -- That a corridor is so, and that each of a table is, as tests that compute.
 abbrev in_table : Corridor → Bool
-in_table r = ltb r.from 4 && (ltb r.to 4 && (leb r.lines 2 && leb (r.first + r.lines) 6))
+in_table r = ltb (region_number r.from) 4 && (ltb (region_number r.to) 4 && (leb r.lines 2 && leb (r.first + r.lines) 6))
 
 abbrev all_in_table : List Corridor → Bool
 all_in_table [] = true
@@ -40,12 +41,12 @@ at_number (r ∷ rs) default all past (suc c) = at_number rs default (both_true 
 pub in_table_lem : (c : ℕ) → InTable (corridor c)
 in_table_lem c =
     let r = corridor c in
-    let from = both_true (ltb r.from 4) _ (at_number corridors (record { from = 0; to = 0; first = 0; lines = 0 }) refl refl c) in
-    let to = both_true (ltb r.to 4) _ from.1 in
+    let from = both_true (ltb (region_number r.from) 4) _ (at_number corridors (record { from = Nsw1; to = Nsw1; first = 0; lines = 0 }) refl refl c) in
+    let to = both_true (ltb (region_number r.to) 4) _ from.1 in
     let few = both_true (leb r.lines 2) _ to.1 in
     record {
-      from = ltb-true r.from 4 from.0;
-      to = ltb-true r.to 4 to.0;
+      from = ltb-true (region_number r.from) 4 from.0;
+      to = ltb-true (region_number r.to) 4 to.0;
       few = leb-true r.lines 2 few.0;
       last = leb-true (r.first + r.lines) 6 few.1;
     }

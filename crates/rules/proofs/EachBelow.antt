@@ -1,5 +1,6 @@
 -- What `each n f` says of the numbers below n, and how it is shown.
 -- Assumes nothing.
+use mathlib.Core.List.{List, [], ◌∷◌}
 use mathlib.Core.Path.{◌≡◌, refl, sym, ap, subst, ◌∙◌}
 use mathlib.Core.Bool.{Bool, true, false, ◌&&◌, ◌||◌, false≢true}
 use Prim.Native.Nat.{ℕ, zero, suc, ◌+◌, ◌<◌}
@@ -7,6 +8,8 @@ use native.Mathlib.Numerals.{add-one}
 use native.Mathlib.Omega.{arith}
 use borrow.Author.Tests.{eqb-true, eqb-false}
 use lib.Dec.{eqb}
+use lib.ListN.{length, get_or}
+use Rattle.std.specs.List.{list_all, range_with_len}
 use Rattle.rules.specs.Refusal.{each}
 
 pub both_true : (x y : Bool) → (x && y) ≡ true → (x ≡ true) × (y ≡ true)
@@ -78,3 +81,39 @@ each_both f g (suc n) = rw (each_both f g n) (exchange (each n f) (each n g) (f 
     exchange true false true y = refl
     exchange true false false y = refl
     exchange false b x y = refl
+
+-- ---- iterators: `all` over a slice and over a range
+-- The first number apart from the others.
+each_first : (n : ℕ) (f : ℕ → Bool) → each (suc n) f ≡ (f 0 && each n (λ i. f (suc i)))
+unfolding each
+each_first zero f = swap (f 0)
+  where
+    swap : (b : Bool) → (true && b) ≡ (b && true)
+    swap true = refl
+    swap false = refl
+each_first (suc n) f = rw (each_first n f) (grouped (f 0) (each n (λ i. f (suc i))) (f (suc n)))
+  where
+    grouped : (a b c : Bool) → ((a && b) && c) ≡ (a && (b && c))
+    grouped true b c = refl
+    grouped false b c = refl
+
+-- Each of the n items of a list passes; x stands past its end.
+items_pass : {A : Type 0} (p : A → Bool) (x : A) (xs : List A) → list_all p xs ≡ each (length xs) (λ i. p (get_or xs i x))
+unfolding each
+items_pass p x [] = refl
+items_pass p x (y ∷ ys) = rw (items_pass p x ys) (sym (each_first (length ys) (λ i. p (get_or (y ∷ ys) i x))))
+
+pub each_item : {A : Type 0} (p : A → Bool) (x : A) (xs : List A) {n : ℕ} → length xs ≡ n → list_all p xs ≡ each n (λ i. p (get_or xs i x))
+each_item p x xs e = items_pass p x xs ∙ ap (λ (m : ℕ). each m (λ i. p (get_or xs i x))) e
+
+-- Each of the n numbers from a on passes.
+each_from : (f : ℕ → Bool) (a n : ℕ) → list_all f (range_with_len a n) ≡ each n (λ i. f (a + i))
+unfolding each
+each_from f a zero = refl
+each_from f a (suc n) =
+    let start : f a ≡ f (a + 0) = ap f (omega arith) in
+    let others : each n (λ i. f (a + 1 + i)) ≡ each n (λ i. f (a + suc i)) = each_same n (λ i. f (a + 1 + i)) (λ i. f (a + suc i)) (λ i l. ap f (omega arith)) in
+    ap (λ t. f a && t) (each_from f (a + 1) n ∙ others) ∙ ap (λ t. t && each n (λ i. f (a + suc i))) start ∙ sym (each_first n (λ i. f (a + i)))
+
+pub each_number : (f : ℕ → Bool) (n : ℕ) → list_all f (range_with_len 0 n) ≡ each n f
+each_number f n = each_from f 0 n ∙ each_same n (λ i. f (0 + i)) f (λ i l. ap f (omega arith))

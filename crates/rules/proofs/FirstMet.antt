@@ -6,12 +6,13 @@ use mathlib.Core.Bool.{true, false, false≢true}
 use mathlib.Core.List.{List, [], ◌∷◌}
 use Prim.Native.Nat.{ℕ, zero, suc}
 use lib.ListN.{drop, get_or}
-use Rattle.rules.specs.declared.Outcome.TheVariants.{Accepted, Refused}
+use Rattle.std.specs.Prelude.{Ok, Err}
+use Rattle.rules.specs.declared.Refusal.TheVariants.{NotARecord}
 use Rattle.rules.specs.Refusal.{Condition, ◌when◌, judged}
 
 -- stands past the end of a list
 abbrev pub never : Condition
-never = 0 when false
+never = NotARecord when false
 
 -- None of the first k conditions is met: the outcome is what the others give.
 pub record Passed (k : ℕ) (cs : List Condition) : Type 0 where
@@ -26,7 +27,7 @@ pass_one zero (c ∷ cs) e = rw e
 pass_one (suc k) [] e = refl
 pass_one (suc k) (c ∷ cs) e = pass_one k cs e
 
-met_one : (k : ℕ) (cs : List Condition) → (get_or cs k never).met ≡ true → judged (drop k cs) ≡ Refused (get_or cs k never).number
+met_one : (k : ℕ) (cs : List Condition) → (get_or cs k never).met ≡ true → judged (drop k cs) ≡ Err (get_or cs k never).refusal
 met_one zero [] e = absurd (false≢true e)
 met_one zero (c ∷ cs) e = rw e
 met_one (suc k) [] e = absurd (false≢true e)
@@ -38,9 +39,9 @@ module _ {cs : List Condition} (k : ℕ) (p : Passed k cs) where
   pass e = record { others = p.others ∙ pass_one k cs e }
 
   -- it is met;
-  pub refused_at : (get_or cs k never).met ≡ true → judged cs ≡ Refused (get_or cs k never).number
+  pub refused_at : (get_or cs k never).met ≡ true → judged cs ≡ Err (get_or cs k never).refusal
   refused_at e = p.others ∙ met_one k cs e
 
   -- there is none.
-  pub accepted_past : drop k cs ≡ [] → judged cs ≡ Accepted
+  pub accepted_past : drop k cs ≡ [] → judged cs ≡ Ok tt
   accepted_past e = p.others ∙ rw e

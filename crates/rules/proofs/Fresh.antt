@@ -16,7 +16,7 @@ use Rattle.rules.specs.declared.Settings.{Settings}
 use Rattle.rules.specs.declared.Tracker.{Tracker}
 use Rattle.rules.specs.declared.Row.{Row}
 use Rattle.rules.specs.declared.RowAnswer.{RowAnswer}
-use Rattle.rules.specs.declared.Outcome.TheVariants.{Accepted}
+use Rattle.std.specs.Prelude.{Ok, None as NoNotice}
 use Rattle.rules.specs.Market.{of_directions}
 use Rattle.rules.specs.Residue.{residue_of}
 use Rattle.rules.specs.Settings.{document01}
@@ -56,7 +56,7 @@ fresh_direction = record {
   next = no_cents;
   blocked = false;
   flag = true;
-  notice = 0;
+  notice = NoNotice;
 }
 
 abbrev fresh_tracker : Settings → ℕ → List ℕ → Tracker
@@ -103,7 +103,7 @@ row_of_zeros n d flag clamp = record {
   blocked = false;
   flag = flag;
   clamp = clamp;
-  notice = 0;
+  notice = NoNotice;
   leftover = grains (pos 0);
 }
 
@@ -112,7 +112,7 @@ abbrev fresh_row : ℕ → ℕ → Row
 fresh_row first d = row_of_zeros first d true (hundredths (pos 2000000))
 
 abbrev answered : Row → RowAnswer
-answered r = record { outcome = Accepted; row = r }
+answered r = record { outcome = Ok tt; row = r }
 
 pub worked_fresh : (settings : Settings) (first d : ℕ) → worked_row settings first d [] ≡ fresh_row first d
 unfolding worked_row

@@ -17,6 +17,10 @@ use Rattle.units.specs.declared.Cents.{Cents}
 use Rattle.units.specs.declared.Grains.{Grains}
 use Rattle.units.specs.declared.Hundredths.{Hundredths}
 use Rattle.units.specs.Units.{cents, ◌+ᶜ◌, lower_of_zero, ◌+ʰ◌, grains, ◌+ᵍ◌}
+use Rattle.rules.specs.declared.Status.{Status}
+use Rattle.rules.specs.declared.Status.TheVariants.{Unbound, Bound, Violated}
+use Rattle.rules.specs.declared.Region.{Region}
+use Rattle.rules.specs.declared.Region.TheVariants.{Nsw1, Qld1, Sa1, Vic1}
 use Rattle.rules.specs.declared.Line.{Line}
 use Rattle.rules.specs.declared.Residue.{Residue}
 use Rattle.rules.specs.declared.Event.{Event}
@@ -43,11 +47,11 @@ pub flag_bits : map flags_in (1 ∷ 2 ∷ 4 ∷ []) ≡ (true ∷ false ∷ fals
 flag_bits = refl
 
 -- Of a status byte x, in each direction: 0 unbound, 1 bound, 2 violated, plus 4 if blocked.
-abbrev states_in : ℕ → List (ℕ × Bool)
+abbrev states_in : ℕ → List (Status × Bool)
 states_in x = of_directions (λ d. let b = replicate (5 + d) 0 ++ (x ∷ []) in (status b d, blocked b d))
 
 pub status_bits : map states_in (0 ∷ 1 ∷ 2 ∷ 4 ∷ 5 ∷ 6 ∷ [])
-    ≡ map (replicate 8) ((0, false) ∷ (1, false) ∷ (2, false) ∷ (0, true) ∷ (1, true) ∷ (2, true) ∷ [])
+    ≡ map (replicate 8) ((Unbound, false) ∷ (Bound, false) ∷ (Violated, false) ∷ (Unbound, true) ∷ (Bound, true) ∷ (Violated, true) ∷ [])
 status_bits = refl
 
 -- ---- the loop flag
@@ -178,27 +182,27 @@ pub direction_to_from : (c : ℕ) → (corridor_of (2 * c + 1) ≡ c) × (revers
 direction_to_from c = (omega arith, eq-eqb ((2 * c + 1) % 2) 1 (omega arith))
 
 module _ (prices : List Cents) (shares : List ℕ) (lines : List Line) where
-  -- The grains of physical interconnector i between two regions (NSW1 0, QLD1 1, SA1 2, VIC1 3): P is the To price, Q the From price.
-  abbrev pub grains_at : ℕ → ℕ → ℕ → Grains
+  -- The grains of physical interconnector i between two regions of the four: P is the To price, Q the From price.
+  abbrev pub grains_at : Region → Region → ℕ → Grains
   grains_at from to i = grains_of (price prices shares lines to) (price prices shares lines from) (get_or shares i 0) (line prices shares lines i)
 
   abbrev pub a_at : ℕ → Hundredths
   a_at i = (line prices shares lines i).a
 
   -- Grains are summed over a corridor, and so is a: NSW1 to QLD1 (physical 0, 1);
-  pub NSW1-to-QLD1 : (corridor_grains prices shares lines 0 ≡ grains_at 0 1 0 +ᵍ grains_at 0 1 1) × (corridor_flow prices shares lines 0 ≡ a_at 0 +ʰ a_at 1)
+  pub NSW1-to-QLD1 : (corridor_grains prices shares lines 0 ≡ grains_at Nsw1 Qld1 0 +ᵍ grains_at Nsw1 Qld1 1) × (corridor_flow prices shares lines 0 ≡ a_at 0 +ʰ a_at 1)
   NSW1-to-QLD1 = (simp +ℤ_idl, simp +ℤ_idl)
 
   -- VIC1 to NSW1 (2);
-  pub VIC1-to-NSW1 : (corridor_grains prices shares lines 1 ≡ grains_at 3 0 2) × (corridor_flow prices shares lines 1 ≡ a_at 2)
+  pub VIC1-to-NSW1 : (corridor_grains prices shares lines 1 ≡ grains_at Vic1 Nsw1 2) × (corridor_flow prices shares lines 1 ≡ a_at 2)
   VIC1-to-NSW1 = (simp +ℤ_idl, simp +ℤ_idl)
 
   -- VIC1 to SA1 (3, 4);
-  pub VIC1-to-SA1 : (corridor_grains prices shares lines 2 ≡ grains_at 3 2 3 +ᵍ grains_at 3 2 4) × (corridor_flow prices shares lines 2 ≡ a_at 3 +ʰ a_at 4)
+  pub VIC1-to-SA1 : (corridor_grains prices shares lines 2 ≡ grains_at Vic1 Sa1 3 +ᵍ grains_at Vic1 Sa1 4) × (corridor_flow prices shares lines 2 ≡ a_at 3 +ʰ a_at 4)
   VIC1-to-SA1 = (simp +ℤ_idl, simp +ℤ_idl)
 
   -- NSW1 to SA1 (5).
-  pub NSW1-to-SA1 : (corridor_grains prices shares lines 3 ≡ grains_at 0 2 5) × (corridor_flow prices shares lines 3 ≡ a_at 5)
+  pub NSW1-to-SA1 : (corridor_grains prices shares lines 3 ≡ grains_at Nsw1 Sa1 5) × (corridor_flow prices shares lines 3 ≡ a_at 5)
   NSW1-to-SA1 = (simp +ℤ_idl, simp +ℤ_idl)
 
   -- Then they are rounded. The corridor's sum of a gives the direction:

@@ -1,5 +1,6 @@
 -- What follows from the definitions: laws that pin the shared ones, the figures, the claim over lists with its theorem, and the bounds.
 pub mod EachBelow
+pub mod FromFn
 pub mod Directions
 pub mod FirstMet
 pub mod Accepted

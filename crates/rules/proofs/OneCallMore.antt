@@ -3,7 +3,8 @@
 use mathlib.Core.Path.{◌≡◌, refl, ap, ◌∙◌}
 use mathlib.Core.List.{List, [], ◌∷◌, ◌++◌, foldl-append}
 use Prim.Native.Nat.{ℕ, suc}
-use Rattle.rules.specs.declared.Outcome.TheVariants.{Accepted, Refused}
+use Rattle.std.specs.Prelude.{Ok, Err}
+use Rattle.rules.specs.declared.Refusal.{Refusal}
 use Rattle.rules.specs.declared.Event.{Event}
 use Rattle.rules.specs.declared.Settings.{Settings}
 use Rattle.rules.specs.Record.{record_number, event_of}
@@ -20,11 +21,11 @@ module _ (o : Opening) (calls : List (List ℕ)) (b : List ℕ) where
   unfolding accepted
   accepted_on = foldl-append (accept_call o) [] calls (b ∷ [])
 
-  pub refused_longer : {k : ℕ} → judged (interval_conditions (awaited_from o calls) b) ≡ Refused k → accepted o longer ≡ accepted o calls
+  pub refused_longer : {k : Refusal} → judged (interval_conditions (awaited_from o calls) b) ≡ Err k → accepted o longer ≡ accepted o calls
   unfolding accept_call interval_outcome
   refused_longer e = accepted_on ∙ rw e
 
-  module _ (ok : judged (interval_conditions (awaited_from o calls) b) ≡ Accepted) where
+  module _ (ok : judged (interval_conditions (awaited_from o calls) b) ≡ Ok tt) where
     pub accepted_longer : accepted o longer ≡ b ∷ accepted o calls
     unfolding accept_call interval_outcome
     accepted_longer = accepted_on ∙ rw ok

@@ -14,7 +14,7 @@ use Rattle.units.specs.declared.Cents.{Cents}
 use Rattle.units.specs.declared.Grains.{Grains}
 use Rattle.units.specs.Units.{cents, lower_of_zero}
 use Rattle.rules.specs.declared.Line.{Line}
-use Rattle.rules.specs.Market.{corridor}
+use Rattle.rules.specs.Market.{region_number, corridor}
 use Rattle.rules.specs.Residue.{grains_of, with_sign, rounded, price, line, line_grains, corridor_grains, residue_of}
 use Rattle.rules.proofs.Corridors.{over_lines_bound}
 use Rattle.rules.proofs.Laws.{of_residue}
@@ -52,7 +52,7 @@ module _ (prices : List Cents) (shares : List ℕ) (lines : List Line) (A B : �
   line_size : (c i : ℕ) → i < 6 → nat_abs (line_grains prices shares lines c i).0 ≤ 6000000000 * (A + B)
   line_size c i l =
       grains_size (price prices shares lines (corridor c).to) (price prices shares lines (corridor c).from) (get_or shares i 0) (line prices shares lines i)
-      (inside.price (corridor c).to) (inside.price (corridor c).from) (share i l) (inside.a i) (inside.b i)
+      (inside.price (region_number (corridor c).to)) (inside.price (region_number (corridor c).from)) (share i l) (inside.a i) (inside.b i)
 
   corridor_size : (c : ℕ) → nat_abs (corridor_grains prices shares lines c).0 ≤ 2400000 * (5000 * (A + B))
   corridor_size c =

@@ -9,10 +9,10 @@ use Rattle.signed.specs.Range.{minus}
 use Rattle.units.specs.Units.{cents, hundredths}
 use Rattle.rules.specs.declared.DirectionSettings.{DirectionSettings}
 use Rattle.rules.specs.declared.Settings.{Settings}
-use Rattle.rules.specs.declared.Outcome.{Outcome}
-use Rattle.rules.specs.declared.Outcome.TheVariants.{Accepted, Refused}
+use Rattle.std.specs.Prelude.{Ok, Err}
+use Rattle.rules.specs.declared.Refusal.TheVariants.{BadFirst, BadShare, NotRising, OutsideSpan}
 use Rattle.rules.specs.Market.{of_directions}
-use Rattle.rules.specs.Refusal.{each, inside_spans, rising, open_conditions, open_outcome}
+use Rattle.rules.specs.Refusal.{Outcome, each, inside_spans, rising, open_conditions, open_outcome}
 use Rattle.rules.specs.Tracker.{opening_with, open_of}
 use Rattle.rules.specs.Figures.{halves}
 use Rattle.rules.proofs.Directions.{from}
@@ -49,16 +49,16 @@ opens_with first share offset edge = (open_of (opening_with first (set halves 5 
 
 pub nine_to_twenty :
     opens_with 1 1001 (minus 1) (pos 1) ∷ opens_with 0 1001 (minus 1) (pos 1) ∷ opens_with 0 1000 (minus 1) (pos 1) ∷ opens_with 0 1000 (pos 0) (pos 1) ∷ opens_with 0 1000 (pos 0) (pos 0) ∷ []
-    ≡ Refused 9 ∷ Refused 10 ∷ Refused 19 ∷ Refused 20 ∷ Accepted ∷ []
+    ≡ Err BadFirst ∷ Err BadShare ∷ Err OutsideSpan ∷ Err NotRising ∷ Ok tt ∷ []
 unfolding each inside_spans rising open_conditions open_outcome open_of
 nine_to_twenty = refl
 
 -- ---- 19, a value outside its span
 -- Each of the 44, above the highest span and below the lowest.
 abbrev each_value_is : ℤ → List Outcome
-each_value_is z = from (λ k. settings_are (set midway k z)) Accepted 0 44
+each_value_is z = from (λ k. settings_are (set midway k z)) (Ok tt) 0 44
 
-pub each_of_44 : (each_value_is (pos 100000001) ≡ replicate 44 (Refused 19)) × (each_value_is (minus 1000000001) ≡ replicate 44 (Refused 19))
+pub each_of_44 : (each_value_is (pos 100000001) ≡ replicate 44 (Err OutsideSpan)) × (each_value_is (minus 1000000001) ≡ replicate 44 (Err OutsideSpan))
 unfolding each inside_spans rising open_conditions open_outcome
 each_of_44 = (refl, refl)
 
@@ -67,7 +67,7 @@ abbrev span_is : ℕ → ℤ → ℤ → ℤ → ℤ → List Outcome
 span_is k below lowest highest above = map (λ z. settings_are (set midway k z)) (below ∷ lowest ∷ highest ∷ above ∷ [])
 
 abbrev ends : List Outcome
-ends = Refused 19 ∷ Accepted ∷ Accepted ∷ Refused 19 ∷ []
+ends = Err OutsideSpan ∷ Ok tt ∷ Ok tt ∷ Err OutsideSpan ∷ []
 
 pub threshold_span : span_is 0 (minus 1000000001) (minus 1000000000) (minus 1) (pos 0) ≡ ends
 unfolding each inside_spans rising open_conditions open_outcome
@@ -89,6 +89,6 @@ offset_span = refl
 -- ---- 20, edges not rising strictly
 pub equal_or_falling :
     map settings_are (with_edges (pos 7) (pos 7) (pos 8) ∷ with_edges (pos 7) (pos 8) (pos 8) ∷ with_edges (pos 7) (pos 6) (pos 8) ∷ with_edges (pos 7) (pos 9) (pos 8) ∷ with_edges (pos 7) (pos 8) (pos 9) ∷ [])
-    ≡ Refused 20 ∷ Refused 20 ∷ Refused 20 ∷ Refused 20 ∷ Accepted ∷ []
+    ≡ Err NotRising ∷ Err NotRising ∷ Err NotRising ∷ Err NotRising ∷ Ok tt ∷ []
 unfolding each inside_spans rising open_conditions open_outcome
 equal_or_falling = refl

@@ -17,6 +17,7 @@ use Rattle.signed.proofs.Calc.{abs-add, inside}
 use Rattle.units.specs.declared.Cents.{Cents}
 use Rattle.units.specs.declared.Hundredths.{Hundredths}
 use Rattle.units.specs.Units.{lower_of_zero, ◌+ʰ◌}
+use Rattle.rules.specs.declared.Status.{Status}
 use Rattle.rules.specs.declared.Event.{Event}
 use Rattle.rules.specs.declared.Sums.{Sums}
 use Rattle.rules.specs.declared.Period.{Period}
@@ -26,7 +27,7 @@ use Rattle.rules.specs.declared.Tracker.{Tracker}
 use Rattle.rules.specs.declared.DirectionSettings.{DirectionSettings}
 use Rattle.rules.specs.declared.Settings.{Settings}
 use Rattle.rules.specs.Settings.{step_for, own_at}
-use Rattle.rules.specs.Interval.{place, clears_at, swamped, is_swamped, at_half_hour_start, cleared, grown, rule2, next_of, held, counted, status_unbound, status_violated, quiet, rule5, lower, higher, highest_clamp, clamp_from, band, rule7, sums_after, managed_after, suspended_after, step_of}
+use Rattle.rules.specs.Interval.{place, clears_at, swamped, is_swamped, at_half_hour_start, cleared, grown, rule2, next_of, held, counted, is_unbound, is_violated, quiet, rule5, lower, higher, highest_clamp, clamp_from, band, rule7, sums_after, managed_after, suspended_after, step_of}
 use Rattle.rules.specs.History.{clearing, since_clearing, sum_negative, sum_since, state_after}
 use Rattle.rules.specs.Record.{record_number, present, prices, lines, pre_dispatch_prices, pre_dispatch_lines, flag, pre_dispatch_residue, event_of}
 use Rattle.rules.specs.Refusal.{highest_number, direction_ok}
@@ -102,10 +103,10 @@ pub record CountsBounds (c : Counts) : Type 0 where
   pub unbound : c.unbound ≤ 3
   pub violated : c.violated ≤ 3
 
-rule5_size : (before : Bool) (status : ℕ) (clamp : Hundredths) (current : Cents) (after : Period) (counts : Counts) → CountsBounds (rule5 before status clamp current after counts)
+rule5_size : (before : Bool) (status : Status) (clamp : Hundredths) (current : Cents) (after : Period) (counts : Counts) → CountsBounds (rule5 before status clamp current after counts)
 rule5_size before status clamp current after counts = record {
-  unbound = counted_size (quiet before clamp current after && eqb status status_unbound) counts.unbound;
-  violated = counted_size (quiet before clamp current after && eqb status status_violated) counts.violated;
+  unbound = counted_size (quiet before clamp current after && is_unbound status) counts.unbound;
+  violated = counted_size (quiet before clamp current after && is_violated status) counts.violated;
 }
 
 counts_size : (set : Settings) (d : ℕ) (es : List Event) → CountsBounds (state_after set d es).counts

@@ -8,7 +8,8 @@ use native.Mathlib.Omega.{arith}
 use borrow.Author.Tests.{eq-eqb, ne_eqb, le-ltb}
 use lib.Dec.{eqb}
 use lib.ListN.{length, get_or}
-use Rattle.rules.specs.declared.Outcome.TheVariants.{Refused}
+use Rattle.std.specs.Prelude.{Err}
+use Rattle.rules.specs.declared.Refusal.TheVariants.{NotAwaited}
 use Rattle.rules.specs.Record.{record_number}
 use Rattle.rules.specs.Refusal.{judged, highest_number, interval_conditions}
 use Rattle.rules.specs.Tracker.{Opening, accepts}
@@ -45,7 +46,7 @@ module _ (o : Opening) where
       → (c : List ℕ)
       → length c ≡ 168
       → record_number c ≡ record_number (get_or (accepted o calls) k [])
-      → judged (interval_conditions (awaited_from o calls) c) ≡ Refused 3
+      → judged (interval_conditions (awaited_from o calls) c) ≡ Err NotAwaited
   unfolding accepted interval_conditions
   already_taken calls k l c whole same =
       let t = all_taken calls [] (λ k l. absurd (omega arith)) k l in

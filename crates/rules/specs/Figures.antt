@@ -1,6 +1,6 @@
 -- Document 01, "Figures to prove (P)", an example of N4, N8's leftover at both ends of its range, and N2's settings: one table about the
 -- definitions.
-use Rattle.std.specs.Prelude.{Bool, true, false, List, [], ◌∷◌, ◌++◌, map, ◌≡◌, ℕ, ℤ, pos, replicate}
+use Rattle.std.specs.Prelude.{Ok, Bool, true, false, List, [], ◌∷◌, ◌++◌, map, ◌≡◌, ℕ, ℤ, pos, replicate}
 use Rattle.signed.specs.Range.{minus}
 use Rattle.units.specs.declared.Cents.{Cents}
 use Rattle.units.specs.declared.Hundredths.{Hundredths}
@@ -11,7 +11,7 @@ use Rattle.rules.specs.declared.Event.{Event}
 use Rattle.rules.specs.declared.Row.{Row}
 use Rattle.rules.specs.declared.Settings.{Settings}
 use Rattle.rules.specs.declared.Period.TheVariants.{None, Held}
-use Rattle.rules.specs.declared.Outcome.TheVariants.{Accepted}
+use Rattle.rules.specs.declared.Status.TheVariants.{Unbound}
 use Rattle.rules.specs.Market.{of_directions}
 use Rattle.rules.specs.Residue.{interval_line, pre_dispatch_line, rounded, in_cents, no_residue, residue_of}
 use Rattle.rules.specs.Settings.{step_for, own_at, document01}
@@ -75,7 +75,7 @@ reviewed_at review n r = record {
   leftover = grains (pos 0);
   next = cents (pos 0);
   review = review;
-  status = 0;
+  status = Unbound;
   blocked = false;
   target = hundredths (pos 0);
 }
@@ -141,7 +141,7 @@ clamp_of base step offset = clamp_from (hundredths base) (hundredths step) (hund
 pub record Figures : Type 0 where
   -- P1 the case above: -375,000.
   pub p1 : on_vic1_nsw1 (flowing (pos 0)) ≡ cents (minus 375000)
-  pub p1_record : (interval_outcome 0 the_record ≡ Accepted) × ((residue halves the_record 2).cents ≡ cents (minus 375000))
+  pub p1_record : (interval_outcome 0 the_record ≡ Ok tt) × ((residue halves the_record 2).cents ≡ cents (minus 375000))
   pub p1_row : (the_row.amount ≡ cents (minus 375000)) × (the_row.previous ≡ cents (pos 0)) × (the_row.current ≡ cents (minus 375000)) × (the_row.applies ≡ false)
   -- P2 with losses 1,200, share 500: -377,500.
   pub p2 : on_vic1_nsw1 (flowing (pos 1200)) ≡ cents (minus 377500)

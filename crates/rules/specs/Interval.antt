@@ -1,5 +1,5 @@
 -- Document 01, "One interval of one direction": rules 1 to 7.
-use Rattle.std.specs.Prelude.{Bool, true, false, not, cond, ◌&&◌, ◌||◌, List, ℕ, suc, ◌+◌, ◌*◌, ◌/◌, ◌%◌, min, eqb, pos}
+use Rattle.std.specs.Prelude.{Bool, true, false, not, cond, ◌&&◌, ◌||◌, List, Option, Some, None as NoNotice, ℕ, suc, ◌+◌, ◌*◌, ◌/◌, ◌%◌, min, eqb, pos}
 use Rattle.std.specs.Int.Signed.{le_z, lt_z}
 use Rattle.signed.specs.Range.{minus, negative, eq_z}
 use Rattle.units.specs.declared.Cents.{Cents}
@@ -9,6 +9,10 @@ use Rattle.rules.specs.declared.Event.{Event}
 use Rattle.rules.specs.declared.Sums.{Sums}
 use Rattle.rules.specs.declared.Period.{Period}
 use Rattle.rules.specs.declared.Period.TheVariants.{None, Held}
+use Rattle.rules.specs.declared.Status.{Status}
+use Rattle.rules.specs.declared.Status.TheVariants.{Unbound, Bound, Violated}
+use Rattle.rules.specs.declared.Notice.{Notice}
+use Rattle.rules.specs.declared.Notice.TheVariants.{Start, End}
 use Rattle.rules.specs.declared.Managed.{Managed}
 use Rattle.rules.specs.declared.Counts.{Counts}
 use Rattle.rules.specs.declared.Direction.{Direction}
@@ -50,7 +54,7 @@ zeros clamp flag = record {
   next = cents (pos 0);
   blocked = false;
   flag = flag;
-  notice = 0;
+  notice = NoNotice;
 }
 
 -- Fresh: zeros, no period, clamp swamped, not suspended. (A fresh row has flag 1.)
@@ -107,13 +111,19 @@ at_threshold threshold total = le_z total.0 threshold.0
 abbrev pub reached : Cents → Event → Cents → Bool
 reached threshold e sum = at_threshold threshold (sum +ᶜ e.next) && not e.review
 
+-- The notices by number: 1, a period starts; 2, it ends; else 0.
+abbrev pub notice_number : Option Notice → ℕ
+notice_number NoNotice = 0
+notice_number (Some Start) = 1
+notice_number (Some End) = 2
+
 -- 4. No period and reached: first = n+1, last = 6h+11, not extended, notice 1.
-abbrev pub managed : Period → ℕ → Managed
+abbrev pub managed : Period → Option Notice → Managed
 managed p notice = record { period = p; notice = notice }
 
 abbrev pub started : ℕ → Bool → Managed
-started n true = managed (Held (suc n) (6 * half_hour n + 11) false) 1
-started n false = managed None 0
+started n true = managed (Held (suc n) (6 * half_hour n + 11) false) (Some Start)
+started n false = managed None NoNotice
 
 -- In a period with flag 0: last becomes the lower of last and 6h+5. Otherwise in a period, reached, and either q = 5 or
 -- (last = 6h+5 and not extended): last grows by 6, now extended.
@@ -134,11 +144,11 @@ abbrev pub is_over : ℕ → ℕ → Bool
 is_over n last = eqb last n
 
 abbrev pub closed : Bool → Period → Managed
-closed true p = managed None 2
-closed false p = managed p 0
+closed true p = managed None (Some End)
+closed false p = managed p NoNotice
 
 abbrev pub ended : ℕ → Period → Managed
-ended n None = managed None 0
+ended n None = managed None NoNotice
 ended n (Held first last extended) = closed (is_over n last) (Held first last extended)
 
 abbrev pub rule4 : ℕ → Bool → Bool → Period → Managed
@@ -155,20 +165,24 @@ abbrev pub counted : Bool → ℕ → ℕ
 counted true count = min 3 (suc count)
 counted false count = 0
 
-abbrev pub status_unbound : ℕ
-status_unbound = 0
+abbrev pub is_unbound : Status → Bool
+is_unbound Unbound = true
+is_unbound Bound = false
+is_unbound Violated = false
 
-abbrev pub status_violated : ℕ
-status_violated = 2
+abbrev pub is_violated : Status → Bool
+is_violated Unbound = false
+is_violated Bound = false
+is_violated Violated = true
 
 -- What both counts ask beside the status: a period held before and still, a clamp for n that is not swamped, current 0.
 abbrev pub quiet : Bool → Hundredths → Cents → Period → Bool
 quiet before clamp current after = held after && (before && (not (is_swamped clamp) && eq_z current.0 (pos 0)))
 
-abbrev pub rule5 : Bool → ℕ → Hundredths → Cents → Period → Counts → Counts
+abbrev pub rule5 : Bool → Status → Hundredths → Cents → Period → Counts → Counts
 rule5 before status clamp current after counts = record {
-  unbound = counted (quiet before clamp current after && eqb status status_unbound) counts.unbound;
-  violated = counted (quiet before clamp current after && eqb status status_violated) counts.violated;
+  unbound = counted (quiet before clamp current after && is_unbound status) counts.unbound;
+  violated = counted (quiet before clamp current after && is_violated status) counts.violated;
 }
 
 -- 6. Suspended: no, if there is no period or it began now; no, if net is below -100,000; yes, if a count is 3; else as it was.

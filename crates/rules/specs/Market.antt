@@ -3,6 +3,8 @@ use Rattle.std.specs.Prelude.{Bool, List, [], ◌∷◌, ℕ, ◌/◌, ◌%◌, 
 use Rattle.signed.specs.Range.{minus, within}
 use Rattle.units.specs.declared.Cents.{Cents}
 use Rattle.units.specs.declared.Hundredths.{Hundredths}
+use Rattle.rules.specs.declared.Region.{Region}
+use Rattle.rules.specs.declared.Region.TheVariants.{Nsw1, Qld1, Sa1, Vic1}
 use Rattle.rules.specs.declared.Corridor.{Corridor}
 
 -- Prices are whole cents per MWh, -100,000 to 3,000,000.
@@ -18,31 +20,25 @@ abbrev pub loss_ok : Hundredths → Bool
 loss_ok l = within (minus 100000) (pos 100000) l.0
 
 -- Regions 0-3: NSW1, QLD1, SA1, VIC1.
-abbrev pub NSW1 : ℕ
-NSW1 = 0
-
-abbrev pub QLD1 : ℕ
-QLD1 = 1
-
-abbrev pub SA1 : ℕ
-SA1 = 2
-
-abbrev pub VIC1 : ℕ
-VIC1 = 3
+abbrev pub region_number : Region → ℕ
+region_number Nsw1 = 0
+region_number Qld1 = 1
+region_number Sa1 = 2
+region_number Vic1 = 3
 
 -- Physical interconnectors 0-5: NSW1-QLD1, N-Q-MNSP1, VIC1-NSW1, V-SA, V-S-MNSP1, NSW1-SA1.
 -- Corridors 0-3, From to To: NSW1 to QLD1 (physical 0, 1); VIC1 to NSW1 (2); VIC1 to SA1 (3, 4); NSW1 to SA1 (5).
 abbrev pub corridors : List Corridor
 corridors =
-    record { from = NSW1; to = QLD1; first = 0; lines = 2 }
-    ∷ record { from = VIC1; to = NSW1; first = 2; lines = 1 }
-    ∷ record { from = VIC1; to = SA1; first = 3; lines = 2 }
-    ∷ record { from = NSW1; to = SA1; first = 5; lines = 1 }
+    record { from = Nsw1; to = Qld1; first = 0; lines = 2 }
+    ∷ record { from = Vic1; to = Nsw1; first = 2; lines = 1 }
+    ∷ record { from = Vic1; to = Sa1; first = 3; lines = 2 }
+    ∷ record { from = Nsw1; to = Sa1; first = 5; lines = 1 }
     ∷ []
 
 -- (There is no corridor above 3.)
 abbrev pub corridor : ℕ → Corridor
-corridor c = get_or corridors c (record { from = 0; to = 0; first = 0; lines = 0 })
+corridor c = get_or corridors c (record { from = Nsw1; to = Nsw1; first = 0; lines = 0 })
 
 -- Direction 2c is From_To of corridor c, 2c+1 is To_From.
 abbrev pub corridor_of : ℕ → ℕ

@@ -7,6 +7,8 @@ use Rattle.units.specs.declared.Grains.{Grains}
 use Rattle.units.specs.Units.{cents, hundredths, -ʰ◌}
 use Rattle.rules.specs.declared.Line.{Line}
 use Rattle.rules.specs.declared.Residue.{Residue}
+use Rattle.rules.specs.declared.Status.{Status}
+use Rattle.rules.specs.declared.Status.TheVariants.{Unbound, Bound, Violated}
 use Rattle.rules.specs.declared.Event.{Event}
 use Rattle.rules.specs.Market.{corridor_of, reverse}
 use Rattle.rules.specs.Residue.{interval_line, pre_dispatch_line, over_lines, corridor_grains, residue_of}
@@ -49,8 +51,12 @@ present b = bit 2 (flags b)
 abbrev pub status_byte : List ℕ → ℕ → ℕ
 status_byte b d = byte_at b (5 + d)
 
-abbrev pub status : List ℕ → ℕ → ℕ
-status b d = status_byte b d % 4
+-- (a 3 stands for nothing: such a record is refused)
+abbrev pub status_numbered : ℕ → Status
+status_numbered x = cond (eqb x 0) Unbound (cond (eqb x 2) Violated Bound)
+
+abbrev pub status : List ℕ → ℕ → Status
+status b d = status_numbered (status_byte b d % 4)
 
 abbrev pub blocked : List ℕ → ℕ → Bool
 blocked b d = bit 2 (status_byte b d)

@@ -1,11 +1,11 @@
 -- Document 01, "Refused calls".
-use Rattle.std.specs.Prelude.{Bool, true, false, not, cond, ◌&&◌, ◌||◌, List, [], ◌∷◌, ℕ, zero, suc, ◌+◌, ◌*◌, ◌/◌, eqb, leb, ltb, length, get_or}
+use Rattle.std.specs.Prelude.{Bool, true, false, not, cond, ◌&&◌, ◌||◌, List, [], ◌∷◌, ℕ, zero, suc, Result, Ok, Err, ◌+◌, ◌*◌, ◌/◌, eqb, leb, ltb, length, get_or}
 use Rattle.std.proofs.Math.Option.{Option, none, some}
 use Rattle.std.specs.Int.Signed.{lt_z}
 use Rattle.units.specs.declared.Cents.{Cents}
 use Rattle.units.specs.declared.Hundredths.{Hundredths}
-use Rattle.rules.specs.declared.Outcome.{Outcome}
-use Rattle.rules.specs.declared.Outcome.TheVariants.{Accepted, Refused}
+use Rattle.rules.specs.declared.Refusal.{Refusal}
+use Rattle.rules.specs.declared.Refusal.TheVariants.{NotARecord, NumberTooHigh, NotAwaited, BadFlags, BadStatus, BadPrice, BadFlow, BadPreDispatch, BadFirst, BadShare, BadLength, BadTrailer, BadNumbers, NotInOrder, BadRecords, NoRoom, NoDirection, OutsideSpan, NotRising}
 use Rattle.rules.specs.declared.DirectionSettings.{DirectionSettings}
 use Rattle.rules.specs.declared.Settings.{Settings}
 use Rattle.rules.specs.Market.{price_ok, flow_ok, loss_ok}
@@ -13,33 +13,59 @@ use Rattle.rules.specs.Settings.{threshold_ok, edge_at, edge_ok, step_for, step_
 use Rattle.rules.specs.Interval.{place}
 use Rattle.rules.specs.Record.{u32_at, record_number, flags, present, status_byte, zero_bytes, price, metered, target, losses, pre_dispatch_price, pre_dispatch_flow, pre_dispatch_losses}
 
+-- The number of a refusal.
+abbrev pub number : Refusal → ℕ
+number NotARecord = 1
+number NumberTooHigh = 2
+number NotAwaited = 3
+number BadFlags = 4
+number BadStatus = 5
+number BadPrice = 6
+number BadFlow = 7
+number BadPreDispatch = 8
+number BadFirst = 9
+number BadShare = 10
+number BadLength = 11
+number BadTrailer = 12
+number BadNumbers = 13
+number NotInOrder = 14
+number BadRecords = 15
+number NoRoom = 16
+number NoDirection = 17
+number OutsideSpan = 19
+number NotRising = 20
+
+-- How a call ends: accepted, or refused.
+abbrev pub Outcome : Type 0
+Outcome = Result (Unit {0}) Refusal
+
 -- The number of an outcome: an acceptance has none.
-abbrev pub number_of : Outcome → Option ℕ
-number_of Accepted = none
-number_of (Refused k) = some k
+abbrev pub number_of : {A : Type 0} → Result A Refusal → Option ℕ
+number_of (Ok given) = none
+number_of (Err why) = some (number why)
 
 abbrev pub is_accepted : Outcome → Bool
-is_accepted Accepted = true
-is_accepted (Refused k) = false
+is_accepted (Ok given) = true
+is_accepted (Err why) = false
 
--- A condition under which a call is refused, and the refusal's number.
+-- A refusal, and the condition under which it is met.
 infix 70 ◌when◌
 pub record Condition : Type 0 where
   pub met : Bool
-  pub number : ℕ
+  pub refusal : Refusal
 
-abbrev pub ◌when◌ : ℕ → Bool → Condition
-k when met = record { met = met; number = k }
+abbrev pub ◌when◌ : Refusal → Bool → Condition
+why when met = record { met = met; refusal = why }
 
 -- The first condition met, as listed, gives the number; without one the call is accepted.
 abbrev pub judged : List Condition → Outcome
-judged [] = Accepted
-judged (c ∷ cs) = cond c.met (Refused c.number) (judged cs)
+judged [] = Ok tt
+judged (c ∷ cs) = cond c.met (Err c.refusal) (judged cs)
 
 -- The same as a number: that of the first condition met, or none.
 abbrev pub number_met : List Condition → Option ℕ
 number_met [] = none
-number_met (c ∷ cs) = cond c.met (some c.number) (number_met cs)
+number_met (c ∷ cs) = cond c.met (some (number c.refusal)) (number_met cs)
 
 -- f holds of each number below n.
 unfoldable pub each : ℕ → (ℕ → Bool) → Bool
@@ -88,14 +114,14 @@ bad_pre_dispatch b = not (cond (present b) (pre_dispatch_inside b) (pre_dispatch
 -- Interval: 1 length not 168; 2 n above 1,051,199; 3 n not the awaited number, so an n already taken too, under any issue (N7); 4 to 8 as above.
 unfoldable pub interval_conditions : ℕ → List ℕ → List Condition
 interval_conditions awaited b =
-    1 when not (eqb (length b) 168)
-    ∷ 2 when ltb highest_number (record_number b)
-    ∷ 3 when not (eqb (record_number b) awaited)
-    ∷ 4 when bad_flags b
-    ∷ 5 when bad_status b
-    ∷ 6 when bad_price b
-    ∷ 7 when bad_flow b
-    ∷ 8 when bad_pre_dispatch b
+    NotARecord when not (eqb (length b) 168)
+    ∷ NumberTooHigh when ltb highest_number (record_number b)
+    ∷ NotAwaited when not (eqb (record_number b) awaited)
+    ∷ BadFlags when bad_flags b
+    ∷ BadStatus when bad_status b
+    ∷ BadPrice when bad_price b
+    ∷ BadFlow when bad_flow b
+    ∷ BadPreDispatch when bad_pre_dispatch b
     ∷ []
 
 unfoldable pub interval_outcome : ℕ → List ℕ → Outcome
@@ -130,10 +156,10 @@ rising edges = each 2 (rises_at edges)
 
 unfoldable pub open_conditions : ℕ → List ℕ → Settings → List Condition
 open_conditions first shares set =
-    9 when (ltb highest_number first || not (eqb (place first) 0))
-    ∷ 10 when not (each 6 (share_ok shares))
-    ∷ 19 when not (inside_spans set)
-    ∷ 20 when not (rising set.edges)
+    BadFirst when (ltb highest_number first || not (eqb (place first) 0))
+    ∷ BadShare when not (each 6 (share_ok shares))
+    ∷ OutsideSpan when not (inside_spans set)
+    ∷ NotRising when not (rising set.edges)
     ∷ []
 
 unfoldable pub open_outcome : ℕ → List ℕ → Settings → Outcome
@@ -141,7 +167,7 @@ open_outcome first shares set = judged (open_conditions first shares set)
 
 -- Row: 17 direction above 7.
 unfoldable pub row_conditions : ℕ → List Condition
-row_conditions d = 17 when ltb 7 d ∷ []
+row_conditions d = NoDirection when ltb 7 d ∷ []
 
 unfoldable pub row_outcome : ℕ → Outcome
 row_outcome d = judged (row_conditions d)

@@ -9,7 +9,8 @@ use Rattle.units.specs.Units.{cents, hundredths, grains, in_grains, ◌+ᶜ◌, 
 use Rattle.rules.specs.declared.Line.{Line}
 use Rattle.rules.specs.declared.Residue.{Residue}
 use Rattle.rules.specs.declared.CorridorResidue.{CorridorResidue}
-use Rattle.rules.specs.Market.{corridor, corridor_of, reverse}
+use Rattle.rules.specs.declared.Region.{Region}
+use Rattle.rules.specs.Market.{region_number, corridor, corridor_of, reverse}
 
 -- For a physical interconnector: k is its From loss share in thousandths, a and b as below, P the To price, Q the From price.
 -- Its grains are P × (1000a - (1000-k)b) - Q × (1000a + kb).
@@ -54,10 +55,10 @@ sum_from first (suc n) f = sum_from first n f +ℤ f (first + n)
 abbrev pub over_lines : ℕ → (ℕ → ℤ) → ℤ
 over_lines c f = sum_from (corridor c).first (corridor c).lines f
 
--- Prices by region; a and b, and the shares, by physical interconnector: the same for an interval and for a pre-dispatch half-hour.
+-- Prices by region, in the order of their numbers; a and b, and the shares, by physical interconnector: the same for an interval and for a pre-dispatch half-hour.
 module _ (prices : List Cents) (shares : List ℕ) (lines : List Line) where
-  abbrev pub price : ℕ → Cents
-  price region = get_or prices region (cents (pos 0))
+  abbrev pub price : Region → Cents
+  price region = get_or prices (region_number region) (cents (pos 0))
 
   abbrev pub line : ℕ → Line
   line i = get_or lines i (record { a = hundredths (pos 0); b = hundredths (pos 0) })

@@ -1,5 +1,5 @@
 -- Document 01, "Record, opening, row, journal": what the calls of the tracker return for every input.
-use Rattle.std.specs.Prelude.{Bool, false, not, cond, ℕ, suc, pos, get_or, replicate}
+use Rattle.std.specs.Prelude.{None as NoNotice, Bool, false, not, cond, ℕ, suc, pos, get_or, replicate}
 use mathlib.Core.List.{List, foldl}
 use Rattle.units.specs.declared.Cents.{Cents}
 use Rattle.units.specs.declared.Grains.{Grains}
@@ -122,7 +122,7 @@ no_row = record {
   blocked = false;
   flag = false;
   clamp = hundredths (pos 0);
-  notice = 0;
+  notice = NoNotice;
   leftover = grains (pos 0);
 }
 

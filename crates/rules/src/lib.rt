@@ -1,6 +1,9 @@
-// The types of the tracker, and the numbers that several crates need. Their meaning is in specs/, in document 01's order; there is no code here.
+// The types of the tracker, and the numbers that several crates need. Their meaning is in specs/, in document 01's order.
 
 #![tactic(auto)]
+
+ghost use Rattle.std.specs.Prelude.{◌≡◌, [], ◌∷◌};
+ghost use Rattle.rules.specs.Refusal.{number, ◌when◌, judged};
 
 use units::{Cents, Grains, Hundredths};
 
@@ -13,11 +16,20 @@ pub const RECORD: usize = 168;
 // A clamp that limits nothing: document 01's "swamped".
 pub const SWAMPED: Hundredths = Hundredths(2_000_000);
 
+// The regions, in the order of their prices.
+#[derive(Clone, Copy)]
+pub enum Region {
+    Nsw1,
+    Qld1,
+    Sa1,
+    Vic1,
+}
+
 // A corridor: the regions that it runs from and to, and its physical interconnectors, `lines` of them from number `first` on.
 #[derive(Clone, Copy)]
 pub struct Corridor {
-    pub from: usize,
-    pub to: usize,
+    pub from: Region,
+    pub to: Region,
     pub first: usize,
     pub lines: usize,
 }
@@ -30,7 +42,7 @@ pub struct Line {
 }
 
 // A residue in whole cents, and the part of a cent left over (N8).
-#[derive(Clone, Copy)]
+#[derive(Clone, Copy, Default)]
 pub struct Residue {
     pub cents: Cents,
     pub leftover: Grains,
@@ -43,8 +55,16 @@ pub struct CorridorResidue {
     pub reverse: bool,
 }
 
-// What an accepted record says of one direction. The status is 0 unbound, 1 bound, 2 violated; the target is the corridor's
-// target sum in the sense of the direction; a loop flag of 1 is true.
+// Whether a direction's constraint was unbound, bound or violated.
+#[derive(Clone, Copy, PartialEq, Eq)]
+pub enum Status {
+    Unbound,
+    Bound,
+    Violated,
+}
+
+// What an accepted record says of one direction. The target is the corridor's target sum in the sense of the direction; a loop flag of 1
+// is true.
 #[derive(Clone, Copy)]
 pub struct Event {
     pub n: u32,
@@ -53,12 +73,12 @@ pub struct Event {
     pub leftover: Grains,
     pub next: Cents,
     pub review: bool,
-    pub status: u8,
+    pub status: Status,
     pub blocked: bool,
     pub target: Hundredths,
 }
 
-#[derive(Clone, Copy)]
+#[derive(Clone, Copy, Default)]
 pub struct Sums {
     pub previous: Cents,
     pub current: Cents,
@@ -66,8 +86,9 @@ pub struct Sums {
 }
 
 // A management period: none, or first, last and whether extended.
-#[derive(Clone, Copy)]
+#[derive(Clone, Copy, Default)]
 pub enum Period {
+    #[default]
     None,
     Held {
         first: u32,
@@ -76,21 +97,28 @@ pub enum Period {
     },
 }
 
-// What rule 4 leaves: the period, and the notice (1 start, 2 end, 0 none).
+// A notice: a management period starts, or ends.
+#[derive(Clone, Copy, PartialEq, Eq)]
+pub enum Notice {
+    Start = 1,
+    End = 2,
+}
+
+// What rule 4 leaves: the period, and the notice, if there is one.
 #[derive(Clone, Copy)]
 pub struct Managed {
     pub period: Period,
-    pub notice: u8,
+    pub notice: Option<Notice>,
 }
 
-#[derive(Clone, Copy)]
+#[derive(Clone, Copy, Default)]
 pub struct Counts {
     pub unbound: u8,
     pub violated: u8,
 }
 
 // One direction's state: what the rules keep, and what its row shows of the latest accepted interval.
-#[derive(Clone, Copy)]
+#[derive(Clone, Copy, Default)]
 pub struct Direction {
     pub sums: Sums,
     pub period: Period,
@@ -102,7 +130,7 @@ pub struct Direction {
     pub next: Cents,
     pub blocked: bool,
     pub flag: bool,
-    pub notice: u8,
+    pub notice: Option<Notice>,
 }
 
 // One direction's settings: a step for each of the four bands of net, and the offset (N2).
@@ -130,7 +158,7 @@ pub struct Tracker {
     pub directions: [Direction; 8],
 }
 
-#[derive(Clone, Copy)]
+#[derive(Clone, Copy, Default)]
 pub struct Row {
     pub n: u32,
     pub direction: usize,
@@ -146,27 +174,67 @@ pub struct Row {
     pub blocked: bool,
     pub flag: bool,
     pub clamp: Hundredths,
-    pub notice: u8,
+    pub notice: Option<Notice>,
     pub leftover: Grains,
 }
 
-// How a call ends: accepted, or refused under a number.
-#[derive(Clone, Copy)]
-pub enum Outcome {
-    Accepted,
-    Refused(u8),
+// Why a call is refused, under document 01's numbers; 19 and 20 are N2's, 18 is of no call here.
+#[derive(Clone, Copy, PartialEq, Eq)]
+pub enum Refusal {
+    // interval
+    NotARecord = 1,
+    NumberTooHigh = 2,
+    NotAwaited = 3,
+    BadFlags = 4,
+    BadStatus = 5,
+    BadPrice = 6,
+    BadFlow = 7,
+    BadPreDispatch = 8,
+    // opening
+    BadFirst = 9,
+    BadShare = 10,
+    // journal read
+    BadLength = 11,
+    BadTrailer = 12,
+    BadNumbers = 13,
+    NotInOrder = 14,
+    // journal write
+    BadRecords = 15,
+    NoRoom = 16,
+    // row
+    NoDirection = 17,
+    // opening with settings (N2)
+    OutsideSpan = 19,
+    NotRising = 20,
 }
 
-// The answer of an opening and of an interval call: the tracker to go on with stands beside the outcome.
+impl Refusal {
+    // Refuses for this reason if the condition is met.
+    pub fn when(self, met: bool) -> Result<(), Refusal>
+        ensures { result ≡ judged (self when met ∷ []) }
+    {
+        if met { Err(self) } else { Ok(()) }
+    }
+}
+
+impl From<Refusal> for u8 {
+    ghost from_gives = { λ refusal n. n ≡ number refusal };
+
+    fn from(refusal: Refusal) -> u8 {
+        refusal as u8
+    }
+}
+
+// The answer of an opening and of an interval call: how it ended, and beside that the tracker to go on with, which document 01 gives on a refusal too.
 #[derive(Clone, Copy)]
 pub struct Answer {
-    pub outcome: Outcome,
+    pub outcome: Result<(), Refusal>,
     pub tracker: Tracker,
 }
 
-// The answer of a row call.
+// The answer of a row call: on a refusal too a row stands beside the outcome, all zeros.
 #[derive(Clone, Copy)]
 pub struct RowAnswer {
-    pub outcome: Outcome,
+    pub outcome: Result<(), Refusal>,
     pub row: Row,
 }

@@ -1,2 +1,3 @@
--- What the proofs of the crate share.
-mod StepTable
+-- What the proofs of the crate share, and what holds of the table of steps.
+mod EachOf
+pub mod StepTable

@@ -2,13 +2,15 @@
 
 #![tactic(auto)]
 
-ghost use Rattle.std.specs.Prelude.{map, ◌≡◌, ◌<◌, pos, get_or};
+ghost use Rattle.std.specs.Prelude.{map, ◌≡◌};
+ghost use Rattle.std.specs.List.{list_all};
+ghost use Rattle.signed.specs.Range.{within};
 ghost use Rattle.rules.specs.Settings.{documented_steps, documented_direction, document01};
-ghost use Rattle.rules.specs.Refusal.{edges_ok, steps_ok, direction_ok, directions_ok, inside_spans, rising};
+ghost use Rattle.rules.specs.Refusal.{direction_ok, inside_spans, rising};
 ghost use Rattle.settings.specs.Internal.{widened};
 
 use rules::{DirectionSettings, Settings};
-use units::{Cents, Hundredths};
+use units::{Cents, Hundredths, Quantity, Span};
 
 // Document 01's threshold, -$100,000; its edges, -5000, -1000 and 1000 dollars; its offset, 20 MW.
 const THRESHOLD: Cents = Cents(-10_000_000);
@@ -30,22 +32,26 @@ const STEPS: [[i16; 4]; 8] = [
     [-7_500, -4_000, 0, 3_000], // SA1_NSW1
 ];
 
-// The spans, each from the lowest value to the highest.
-const LOWEST_THRESHOLD: Cents = Cents(-1_000_000_000);
+// The span of each value (N2).
+const THRESHOLD_SPAN: Span<Cents> = Span {
+    low: Cents(-1_000_000_000),
+    high: Cents(-1),
+};
 
-const HIGHEST_THRESHOLD: Cents = Cents(-1);
+const EDGE_SPAN: Span<Cents> = Span {
+    low: Cents(-100_000_000),
+    high: Cents(100_000_000),
+};
 
-const LOWEST_EDGE: Cents = Cents(-100_000_000);
+const STEP_SPAN: Span<Hundredths> = Span {
+    low: Hundredths(-100_000),
+    high: Hundredths(100_000),
+};
 
-const HIGHEST_EDGE: Cents = Cents(100_000_000);
-
-const LOWEST_STEP: Hundredths = Hundredths(-100_000);
-
-const HIGHEST_STEP: Hundredths = Hundredths(100_000);
-
-const LOWEST_OFFSET: Hundredths = Hundredths(0);
-
-const HIGHEST_OFFSET: Hundredths = Hundredths(100_000);
+const OFFSET_SPAN: Span<Hundredths> = Span {
+    low: Hundredths(0),
+    high: Hundredths(100_000),
+};
 
 // The whole table, so that one contract speaks of all 32 entries: widened, they are document 01's (N5).
 fn steps() -> [[i16; 4]; 8]
@@ -54,36 +60,19 @@ fn steps() -> [[i16; 4]; 8]
     STEPS
 }
 
-// The entry of a direction's row for a band.
-fn entry_for(row: [i16; 4], band: usize) -> i16
-    requires { band < 4 }
-    ensures { result ≡ get_or row band (pos 0) }
+// An entry of the table as a step, widened on reading (N5).
+fn widened(entry: i16) -> Hundredths
+    ensures { result ≡ widened entry }
 {
-    row[band]
-}
-
-// The same as a step, widened on reading (N5).
-fn step_for(row: [i16; 4], band: usize) -> Hundredths
-    requires { band < 4 }
-    ensures { result ≡ widened (get_or row band (pos 0)) }
-{
-    let narrow = entry_for(row, band);
-    let wide = narrow as i64;
-    Hundredths(wide)
+    Hundredths(i64::from(entry))
 }
 
 // A direction's four steps, with the offset.
 fn direction_settings(row: [i16; 4]) -> DirectionSettings
     ensures { result ≡ documented_direction (map widened row) }
 {
-    let steps = [
-        step_for(row, 0),
-        step_for(row, 1),
-        step_for(row, 2),
-        step_for(row, 3),
-    ];
     DirectionSettings {
-        steps: steps,
+        steps: row.map(widened),
         offset: OFFSET,
     }
 }
@@ -92,91 +81,49 @@ fn direction_settings(row: [i16; 4]) -> DirectionSettings
 pub fn document01() -> Settings
     ensures { result ≡ document01 }
 {
-    let table = steps();
-    let mut directions = [direction_settings([0; 4]); 8];
-    for d in 0..8 {
-        let own = direction_settings(table[d]);
-        directions[d] = own;
-    }
     Settings {
         threshold: THRESHOLD,
         edges: EDGES,
-        directions: directions,
+        directions: steps().map(direction_settings),
     }
 }
 
-fn edges_inside(edges: [Cents; 3]) -> bool
-    ensures { result ≡ edges_ok edges }
+// Is each of the values inside the span?
+fn all_inside<Q: Quantity, const N: usize>(span: Span<Q>, values: [Q; N]) -> bool
+    ensures { result ≡ list_all (λ x. within (Q.whole span.low) (Q.whole span.high) (Q.whole x)) values }
 {
-    for i in 0..3 {
-        let edge = edges[i];
-        if !edge.is_within(LOWEST_EDGE, HIGHEST_EDGE) {
-            return false;
-        }
-    }
-    true
-}
-
-fn steps_inside(steps: [Hundredths; 4]) -> bool
-    ensures { result ≡ steps_ok steps }
-{
-    for band in 0..4 {
-        let step = steps[band];
-        if !step.is_within(LOWEST_STEP, HIGHEST_STEP) {
-            return false;
-        }
-    }
-    true
+    values.iter().all(|&x| span.contains(x))
 }
 
 // Are a direction's steps and its offset inside their spans?
+#[tactic(auto, using(crate::proofs::EachOf::each_of))]
 fn direction_inside(own: DirectionSettings) -> bool
     ensures { result ≡ direction_ok own }
 {
-    let steps = own.steps;
-    let offset = own.offset;
-    if steps_inside(steps) {
-        return offset.is_within(LOWEST_OFFSET, HIGHEST_OFFSET);
-    }
-    false
+    all_inside(STEP_SPAN, own.steps) && OFFSET_SPAN.contains(own.offset)
 }
 
 fn directions_inside(directions: [DirectionSettings; 8]) -> bool
-    ensures { result ≡ directions_ok directions }
+    ensures { result ≡ list_all direction_ok directions }
 {
-    for direction in 0..8 {
-        let own = directions[direction];
-        if !direction_inside(own) {
-            return false;
-        }
-    }
-    true
+    directions.iter().all(|&own| direction_inside(own))
 }
 
 // Is each of the 44 values inside its span?
+#[tactic(auto, using(crate::proofs::EachOf::each_of), unfolding(rules::specs::Refusal::inside_spans))]
 pub fn inside_spans(settings: Settings) -> bool
     ensures { result ≡ inside_spans settings }
 {
-    let threshold = settings.threshold;
-    let edges = settings.edges;
-    let directions = settings.directions;
-    if threshold.is_within(LOWEST_THRESHOLD, HIGHEST_THRESHOLD) {
-        if edges_inside(edges) {
-            return directions_inside(directions);
-        }
-    }
-    false
+    THRESHOLD_SPAN.contains(settings.threshold)
+        && all_inside(EDGE_SPAN, settings.edges)
+        && directions_inside(settings.directions)
 }
 
 // Do the edges rise strictly?
+#[tactic(auto, unfolding(rules::specs::Refusal::each, rules::specs::Refusal::rising))]
 pub fn rising(edges: [Cents; 3]) -> bool
     ensures { result ≡ rising edges }
 {
-    let first = edges[0];
-    let second = edges[1];
-    let third = edges[2];
-    if first.below(second) {
-        return second.below(third);
-    }
-    false
+    let [first, second, third] = edges;
+    first < second && second < third
 }

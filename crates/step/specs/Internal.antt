@@ -1,6 +1,5 @@
 -- What a step reads of the settings, and what it is asked. No promise cites this.
 use Rattle.std.specs.Prelude.{true, [], ◌∷◌, ◌≡◌, ℕ, ◌≤◌, nat_abs}
-use Rattle.units.specs.declared.Hundredths.{Hundredths}
 use Rattle.rules.specs.declared.Event.{Event}
 use Rattle.rules.specs.declared.Direction.{Direction}
 use Rattle.rules.specs.declared.Settings.{Settings}
@@ -16,12 +15,6 @@ terms_of set d = record { threshold = set.threshold; edges = set.edges; own = ow
 -- settings in which a direction stands alone, as direction 0
 abbrev pub alone : Terms → Settings
 alone terms = record { threshold = terms.threshold; edges = terms.edges; directions = terms.own ∷ [] }
-
--- what rule 7 is asked: a direction's own settings, its interval's target, and the clamp for n
-pub record Movable (terms : Terms) (e : Event) (kept : Hundredths) : Type 0 where
-  pub own : direction_ok terms.own ≡ true
-  pub target : nat_abs e.target.0 ≤ 2000000
-  pub clamp : nat_abs kept.0 ≤ 2000000
 
 -- a direction's settings, its state and the interval that comes next, for a step
 pub record Steppable (terms : Terms) (e : Event) (s : Direction) : Type 0 where

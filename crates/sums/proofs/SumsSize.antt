@@ -32,3 +32,5 @@ rule2_addable true clears r s h = cleared_addable (eq_z (grown r s).current.0 (p
 
 pub amount_size : (s : Sums) → Addable s → nat_abs (amount s).0 ≤ highest_sum + highest_residue
 amount_size s h = le_trans (abs-add s.previous.0 s.current.0) h.amount
+
+pub ruleset sizes = (start_countable, rule2_addable, amount_size)

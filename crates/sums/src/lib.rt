@@ -16,19 +16,17 @@ pub fn rule1(n: u32, s: Sums) -> Sums
     ensures { result ≡ rule1 n s }
 {
     if n % 6 == 0 {
-        let previous = s.previous;
-        let current = s.current;
-        let sum = previous.plus(current);
-        return Sums {
-            previous: sum,
-            current: Cents(0),
-            net: Cents(0),
-        };
+        Sums {
+            previous: s.previous + s.current,
+            ..Sums::default()
+        }
+    } else {
+        s
     }
-    s
 }
 
 // Whether previous becomes 0 for a zero current in interval n: only at the half-hour's close, q = 5 (N4).
+#[tactic(auto, unfolding(rules::specs::Interval::clears_at))]
 pub fn clears_at(n: u32) -> bool
     ensures { result ≡ clears_at (place n) }
 {
@@ -40,16 +38,10 @@ fn grown(r: Cents, s: Sums) -> Sums
     requires { Growable r s }
     ensures { result ≡ grown r s }
 {
-    let previous = s.previous;
-    let low = r.lower_of_zero();
-    let old = s.current;
-    let current = old.plus(low);
-    let before = s.net;
-    let net = before.plus(r);
     Sums {
-        previous: previous,
-        current: current,
-        net: net,
+        current: s.current + r.lower_of_zero(),
+        net: s.net + r,
+        ..s
     }
 }
 
@@ -57,18 +49,14 @@ fn grown(r: Cents, s: Sums) -> Sums
 fn cleared_if_zero(clears: bool, s: Sums) -> Sums
     ensures { result ≡ cleared_if_zero clears s }
 {
-    let current = s.current;
-    let net = s.net;
-    if current.is_zero() {
-        if clears {
-            return Sums {
-                previous: Cents(0),
-                current: current,
-                net: net,
-            };
+    if s.current == Cents(0) && clears {
+        Sums {
+            previous: Cents(0),
+            ..s
         }
+    } else {
+        s
     }
-    s
 }
 
 // 2. At flag 0 all three become 0.
@@ -79,11 +67,7 @@ pub fn rule2(flag: bool, clears: bool, r: Cents, s: Sums) -> Sums
     if flag {
         cleared_if_zero(clears, grown(r, s))
     } else {
-        Sums {
-            previous: Cents(0),
-            current: Cents(0),
-            net: Cents(0),
-        }
+        Sums::default()
     }
 }
 
@@ -92,9 +76,7 @@ pub fn amount(s: Sums) -> Cents
     requires { Addable s }
     ensures { result ≡ amount s }
 {
-    let previous = s.previous;
-    let current = s.current;
-    previous.plus(current)
+    s.previous + s.current
 }
 
 // 3. Reached: amount + next is the threshold or less (N2), and no review.
@@ -102,10 +84,5 @@ pub fn rule3(threshold: Cents, e: Event, amount: Cents) -> bool
     requires { (nat_abs amount.0 ≤ highest_sum + highest_residue) × (nat_abs e.next.0 ≤ highest_next) }
     ensures { result ≡ reached threshold e amount }
 {
-    let next = e.next;
-    let total = amount.plus(next);
-    if total.at_most(threshold) {
-        return !e.review;
-    }
-    false
+    amount + e.next <= threshold && !e.review
 }

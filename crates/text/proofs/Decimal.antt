@@ -90,6 +90,16 @@ pub padded_two : (n : ℕ) → n < 100 → padded 2 n ≡ ((48 + n / 10) ∷ [])
 unfolding padded
 padded_two n h = let e : n / 10 % 10 ≡ n / 10 = omega arith in rw e
 
+-- the same as two bytes of one number
+pub pair_is : (n : ℕ) → n < 100
+    → padded 2 n ≡ (48 + n / 10 + 256 * (48 + n % 10)) % 256 ∷ (48 + n / 10 + 256 * (48 + n % 10)) / 256 % 256 ∷ []
+pair_is n h =
+    let e = by (n / 10) (n % 10) (omega arith) (omega arith) in
+    rw (e.0, e.1) (padded_two n h)
+  where
+    by : (q r : ℕ) → q < 10 → r < 10 → ((48 + q + 256 * (48 + r)) % 256 ≡ 48 + q) × ((48 + q + 256 * (48 + r)) / 256 % 256 ≡ 48 + r)
+    by q r h g = (omega arith, omega arith)
+
 pub two_long : (n : ℕ) → n < 100 → length (padded 2 n) ≡ 2
 two_long n h = ap length (padded_two n h)
 
@@ -98,6 +108,13 @@ dec_two n h g =
     more_digits n h (omega arith)
     ∙ ap (λ (l : List ℕ). l ++ ((48 + n % 10) ∷ [])) (one_digit (n / 10) (omega arith))
     ∙ sym (padded_two n g)
+
+-- what `two` puts of a number: both its digits, or the last two
+pub both_digits : (n : ℕ) → 10 ≤ n → n < 100 → (dec_of n ≡ padded 2 n) × (length (dec_of n) ≡ 2)
+both_digits n h g = (dec_two n h g, ap length (dec_two n h g) ∙ two_long n g)
+
+pub last_digits : (n : ℕ) → 100 ≤ n → n < 2 ^ 64 → (dec_of n ≡ dec_of (n / 100) ++ padded 2 (n % 100)) × (length (padded 2 (n % 100)) ≡ 2)
+last_digits n h g = (dec_split 2 n h (omega arith), two_long (n % 100) (omega arith))
 
 -- a number below 10 ^ k, k at least 1, has at most k digits
 short_by : (k turns n : ℕ) → ((i : ℕ) → i < 10 ^ k → length (decimal turns i) ≤ k) → n < 10 ^ suc k

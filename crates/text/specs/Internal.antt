@@ -1,4 +1,4 @@
--- Digits in a group of a fixed width: what `two`, `four` and `eight` put.
+-- Digits in a group of a fixed width: what `two` puts.
 use Rattle.std.specs.Prelude.{List, [], ◌∷◌, ◌++◌, ℕ, zero, suc, ◌+◌, ◌/◌, ◌%◌}
 
 -- the last k digits of n, zeros in front included

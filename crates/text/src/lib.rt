@@ -1,116 +1,64 @@
-// Numbers as decimal text, put into a lent buffer from their end on: dividing gives the last digits first. A writer here is told the place after
-// its bytes, gives the place where they begin, and leaves every other byte as it was.
+// Numbers as decimal text, put from their end on: dividing gives the last digits first.
 
 #![tactic(auto)]
 
-ghost use Rattle.std.specs.Prelude.{◌≡◌, ◌<◌, ◌≤◌, nat_abs};
-ghost use Rattle.signed.specs.Range.{negative};
-ghost use Rattle.words.specs.Buffer.{Room, RoomBefore, Puts};
-ghost use Rattle.text.specs.Text.{dec_of, number_cell, signed_cell, highest_printed};
+ghost use Rattle.std.specs.Prelude.{◌≡◌, ◌+◌, ◌<◌, ◌≤◌, ◌++◌, length};
+ghost use Rattle.text.specs.Text.{dec_of, number_cell, signed_cell};
 ghost use Rattle.text.specs.Internal.{padded};
 
-// The two digits of a number below 100. They are worked out as one number, in which 48 stands for the digit 0, and so stored at once.
-fn two(n: u64, out: &mut [u8], at: usize) -> usize
-    requires { (n < 100) × Room (padded 2 n) at out.old }
-    ensures { Puts (padded 2 n) at out.old result out.new }
-{
-    let pair = 48 + n / 10 + 256 * (48 + n % 10);
-    let e = words::put_byte((pair % 256) as u8, out, at);
-    words::put_byte((pair / 256) as u8, out, e)
-}
+use units::Quantity;
+use words::FromEnd;
 
-// The digits of a number that has one or two.
-fn one_or_two(n: u64, out: &mut [u8], end: usize) -> usize
-    requires { (n < 100) × RoomBefore (dec_of n) end out.old }
-    ensures { Puts (dec_of n) result out.old end out.new }
+// The two digits of a number below 100. They are worked out as one number, in which 48 stands for the digit 0, and so stored at once.
+#[inline]
+#[tactic(auto, using(crate::proofs::Decimal::pair_is))]
+fn two<const N: usize>(n: u64, out: &mut FromEnd<N>)
+    requires below { n < 100 }
+    requires room { 2 + length out.old ≤ N }
+    ensures { out.new ≡ padded 2 n ++ out.old }
 {
-    if n < 10 {
-        return words::put_byte_before(48 + n as u8, out, end);
-    }
-    let at = end - 2;
-    two(n, out, at);
-    at
+    let pair = (48 + n / 10 + 256 * (48 + n % 10)) as u16;
+    out.put_bytes(&pair.to_le_bytes());
 }
 
 // The digits of any number, two at a time.
-fn digits(n: u64, out: &mut [u8], end: usize) -> usize
-    requires { RoomBefore (dec_of n) end out.old }
-    ensures { Puts (dec_of n) result out.old end out.new }
+#[tactic(auto, using(crate::proofs::Decimal::one_digit, crate::proofs::Decimal::both_digits, crate::proofs::Decimal::last_digits, std::proofs::lemmas::Grind::common_steps))]
+fn digits<const N: usize>(n: u64, out: &mut FromEnd<N>)
+    requires { length (dec_of n) + length out.old ≤ N }
+    ensures { out.new ≡ dec_of n ++ out.old }
 {
     let mut rest = n;
-    let mut at = end;
     while 100 <= rest {
-        at -= 2;
-        two(rest % 100, out, at);
+        two(rest % 100, out);
         rest /= 100;
     }
-    one_or_two(rest, out, at)
+    if rest < 10 {
+        out.put_byte(b'0' + rest as u8);
+    } else {
+        two(rest, out);
+    }
 }
 
 // A plain number and the byte that ends it, a comma or a line's end: an interval's number, a refusal's.
-pub fn number(n: u64, ender: u8, out: &mut [u8], end: usize) -> usize
-    requires { RoomBefore (number_cell n ender) end out.old }
-    ensures { Puts (number_cell n ender) result out.old end out.new }
+#[inline]
+#[tactic(auto, unfolding(crate::specs::Text::number_cell))]
+pub fn number<const N: usize>(n: u64, ender: u8, out: &mut FromEnd<N>)
+    requires { length (number_cell n ender) + length out.old ≤ N }
+    ensures { out.new ≡ number_cell n ender ++ out.old }
 {
-    let at = words::put_byte_before(ender, out, end);
-    digits(n, out, at)
+    out.put_byte(ender);
+    digits(n, out);
 }
 
-// The digits of an amount, of a flow or of a leftover, without the unit. Private: a number is printed only as what it is, by `cents`, `hundredths` or `grains`.
-#[derive(Clone, Copy)]
-struct Plain(i64);
-
-impl Plain {
-    fn is_negative(self) -> bool
-        ensures { result ≡ negative self.0 }
-    {
-        self.0 < 0
-    }
-
-    // The bound keeps the negated number in range.
-    fn magnitude(self) -> u64
-        requires { nat_abs self.0 ≤ highest_printed }
-        ensures { result ≡ nat_abs self.0 }
-    {
-        if self.is_negative() {
-            return (-self.0) as u64;
-        }
-        self.0 as u64
-    }
-}
-
-// A signed number and the byte that ends it.
-fn signed(z: Plain, ender: u8, out: &mut [u8], end: usize) -> usize
-    requires { (nat_abs z.0 ≤ highest_printed) × RoomBefore (signed_cell z.0 ender) end out.old }
-    ensures { Puts (signed_cell z.0 ender) result out.old end out.new }
+// An amount, a flow or a leftover (N8), without its unit, and the byte that ends it.
+#[inline]
+#[tactic(auto, using(crate::proofs::Decimal::cell_minus, crate::proofs::Decimal::cell_plain, crate::proofs::Decimal::cell_longer, std::proofs::lemmas::Grind::common_steps))]
+pub fn quantity<Q: Quantity, const N: usize>(z: Q, ender: u8, out: &mut FromEnd<N>)
+    requires { length (signed_cell (Q.whole z) ender) + length out.old ≤ N }
+    ensures { out.new ≡ signed_cell (Q.whole z) ender ++ out.old }
 {
-    let at = number(z.magnitude(), ender, out, end);
+    number(z.whole().unsigned_abs(), ender, out);
     if z.is_negative() {
-        return words::put_byte_before(b'-', out, at);
+        out.put_byte(b'-');
     }
-    at
-}
-
-// An amount, in cents: the listing's amount, previous, current and next.
-pub fn cents(z: units::Cents, ender: u8, out: &mut [u8], end: usize) -> usize
-    requires { (nat_abs z.0 ≤ highest_printed) × RoomBefore (signed_cell z.0 ender) end out.old }
-    ensures { Puts (signed_cell z.0 ender) result out.old end out.new }
-{
-    signed(Plain(z.0), ender, out, end)
-}
-
-// A clamp, in hundredths of a MW.
-pub fn hundredths(z: units::Hundredths, ender: u8, out: &mut [u8], end: usize) -> usize
-    requires { (nat_abs z.0 ≤ highest_printed) × RoomBefore (signed_cell z.0 ender) end out.old }
-    ensures { Puts (signed_cell z.0 ender) result out.old end out.new }
-{
-    signed(Plain(z.0), ender, out, end)
-}
-
-// A leftover, in grains (N8).
-pub fn grains(z: units::Grains, ender: u8, out: &mut [u8], end: usize) -> usize
-    requires { (nat_abs z.0 ≤ highest_printed) × RoomBefore (signed_cell z.0 ender) end out.old }
-    ensures { Puts (signed_cell z.0 ender) result out.old end out.new }
-{
-    signed(Plain(z.0), ender, out, end)
 }

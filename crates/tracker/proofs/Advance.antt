@@ -7,6 +7,10 @@ use Prim.Native.Nat.{ℕ, ◌≤◌, ◌<◌}
 use native.Mathlib.Decide.{dec_lt}
 use native.Mathlib.Omega.{arith}
 use lib.ListN.{length, get_or, get_or-eq_default}
+use Rattle.std.specs.Prelude.{Ok, Err}
+use Rattle.std.specs.Result.{result_and}
+use Rattle.rules.specs.declared.Refusal.{Refusal}
+use Rattle.rules.specs.Refusal.{Outcome}
 use Rattle.rules.specs.declared.Event.{Event}
 use Rattle.rules.specs.declared.Tracker.{Tracker}
 use Rattle.rules.specs.Interval.{step_of}
@@ -24,6 +28,15 @@ use Rattle.rules.specs.Market.{of_directions}
 use Rattle.events.specs.Internal.{Readable}
 use Rattle.step.specs.Internal.{terms_of, Steppable}
 use Rattle.tracker.specs.Internal.{no_event, AllSteppable, stepped, all_stepped}
+
+-- What is accepted is the record of the bytes; what is refused is refused for that reason.
+pub is_record : (o : Outcome) {b r : List ℕ} → result_and o (Ok b) ≡ Ok r → (o ≡ Ok tt) × (r ≡ b)
+is_record (Ok done) e = (refl, cc)
+is_record (Err why) e = absurd cc
+
+pub is_refusal : (o : Outcome) (b : List ℕ) {why : Refusal} → result_and o (Ok b) ≡ Err why → o ≡ Err why
+is_refusal (Ok done) b e = absurd cc
+is_refusal (Err other) b e = cc
 
 event_target : (shares : List ℕ) (d : ℕ) (b : List ℕ) → (event_of shares d b).target ≡ target_sum b d
 unfolding event_of

@@ -16,7 +16,8 @@ use Rattle.rules.specs.declared.Tracker.{Tracker}
 use Rattle.rules.specs.declared.Row.{Row}
 use Rattle.rules.specs.declared.Answer.{Answer}
 use Rattle.rules.specs.declared.RowAnswer.{RowAnswer}
-use Rattle.rules.specs.declared.Outcome.TheVariants.{Accepted, Refused}
+use Rattle.std.specs.Prelude.{Ok, Err}
+use Rattle.rules.specs.declared.Refusal.TheVariants.{NoDirection}
 use Rattle.rules.specs.Bounds.{RowBounds}
 use Rattle.rules.specs.Refusal.{number_of, is_accepted, judged, open_conditions, open_outcome, interval_conditions, interval_outcome, row_conditions, row_outcome}
 use Rattle.rules.specs.Residue.{together}
@@ -31,7 +32,7 @@ use Rattle.rules.proofs.StateBounds.{row_bounds}
 use Rattle.rules.proofs.CentsAndGrains.{none_left}
 use Rattle.rules.proofs.Leftover.{rows_together}
 pub use Rattle.signed.proofs.Calc.{inside}
-pub use Rattle.rules.proofs.EachBelow.{both_true, both_false, below_or_last, each_at, each_by, each_fails, each_none, each_one_more, each_up_to}
+pub use Rattle.rules.proofs.EachBelow.{both_true, both_false, below_or_last, each_at, each_by, each_fails, each_none, each_one_more, each_up_to, each_same, each_item, each_number}
 pub use Rattle.rules.proofs.UnreadIssue.{under_issue, issue_unread}
 pub use Rattle.rules.proofs.TakenNumbers.{already_taken}
 pub use Rattle.rules.proofs.Directions.{at_direction}
@@ -52,7 +53,7 @@ pub came_interval : (t : Tracker) → Came t → (b : List ℕ) → Came (interv
 came_interval = rules.came_after
 
 -- An accepted opening has the first n, the shares and the settings (N2) that were given.
-pub accepted_as_given : (o : Opening) → judged (open_conditions o.first o.shares o.settings) ≡ Accepted → (first_of o ≡ o.first) × (shares_of o ≡ o.shares) × (settings_of o ≡ o.settings)
+pub accepted_as_given : (o : Opening) → judged (open_conditions o.first o.shares o.settings) ≡ Ok tt → (first_of o ≡ o.first) × (shares_of o ≡ o.shares) × (settings_of o ≡ o.settings)
 unfolding open_outcome
 accepted_as_given o ok = (rw ok, rw ok, rw ok)
 
@@ -115,7 +116,7 @@ row_bounded : (t : Tracker) → Came t → (d : ℕ) → RowBounds (row_answer t
 unfolding row_answer row_outcome row_conditions
 row_bounded t came d = go (ltb 7 d) refl
   where
-    go : (high : Bool) → ltb 7 d ≡ high → RowBounds (cond (is_accepted (cond high (Refused 17) Accepted)) (row_of t d) no_row)
+    go : (high : Bool) → ltb 7 d ≡ high → RowBounds (cond (is_accepted (cond high (Err NoDirection) (Ok tt))) (row_of t d) no_row)
     go true e = none_bounded
     go false e = row_bounds t came d (omega (arith, ltb-false 7 d e))
 
@@ -140,7 +141,7 @@ row_direction {d = d} came row l =
 pub row_number : {t : Tracker} {b : List ℕ} {a : Answer} {d : ℕ} {r : RowAnswer} (o : Opening) (calls : List (List ℕ))
     → t ≡ run o calls
     → IntervalPromise t b a
-    → a.outcome ≡ Accepted
+    → a.outcome ≡ Ok tt
     → RowPromise a.tracker d r
     → d < 8
     → r.row.n ≡ awaited_from o calls

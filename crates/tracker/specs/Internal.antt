@@ -1,15 +1,13 @@
 -- What the functions below the calls are asked and give.
-use Rattle.std.specs.Prelude.{false, List, ℕ, ◌<◌, pos, get_or, replicate}
+use Rattle.std.specs.Prelude.{false, List, ℕ, ◌<◌, pos, get_or}
 use Rattle.units.specs.Units.{cents, hundredths, grains}
 use Rattle.rules.specs.declared.Direction.{Direction}
+use Rattle.rules.specs.declared.Status.TheVariants.{Unbound}
 use Rattle.rules.specs.declared.Event.{Event}
 use Rattle.rules.specs.declared.Settings.{Settings}
-use Rattle.rules.specs.declared.Answer.{Answer}
-use Rattle.rules.specs.declared.Outcome.TheVariants.{Accepted, Refused}
-use Rattle.rules.specs.Settings.{document01}
-use Rattle.rules.specs.Interval.{fresh, step_of}
+use Rattle.rules.specs.Interval.{step_of}
 use Rattle.rules.specs.Market.{of_directions}
-use Rattle.rules.specs.Tracker.{tracker, blank}
+use Rattle.rules.specs.Tracker.{blank}
 use Rattle.step.specs.Internal.{terms_of, Steppable}
 
 -- stands where a list of events ends
@@ -21,16 +19,10 @@ no_event = record {
   leftover = grains (pos 0);
   next = cents (pos 0);
   review = false;
-  status = 0;
+  status = Unbound;
   blocked = false;
   target = hundredths (pos 0);
 }
-
-abbrev pub refused_opening : ℕ → Answer
-refused_opening k = record { outcome = Refused k; tracker = tracker document01 (replicate 6 0) 0 0 (replicate 8 fresh) }
-
-abbrev pub accepted_opening : ℕ → List ℕ → Settings → Answer
-accepted_opening first shares set = record { outcome = Accepted; tracker = tracker set shares first first (replicate 8 fresh) }
 
 -- each direction's settings, state and event allow a step
 pub record AllSteppable (set : Settings) (events : List Event) (ss : List Direction) : Type 0 where

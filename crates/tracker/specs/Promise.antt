@@ -18,14 +18,17 @@ pub use Rattle.rules.specs.declared.Row.{Row}
 pub use Rattle.rules.specs.declared.Period.{Period}
 pub use Rattle.rules.specs.declared.Period.TheVariants.{None, Held}
 pub use Rattle.rules.specs.declared.Counts.{Counts}
-pub use Rattle.rules.specs.declared.Outcome.{Outcome}
-pub use Rattle.rules.specs.declared.Outcome.TheVariants.{Accepted, Refused}
+pub use Rattle.rules.specs.declared.Notice.{Notice}
+pub use Rattle.rules.specs.declared.Notice.TheVariants.{Start, End}
+pub use Rattle.rules.specs.Interval.{notice_number}
+pub use Rattle.rules.specs.declared.Refusal.{Refusal}
+pub use Rattle.rules.specs.declared.Refusal.TheVariants.{NotARecord, NumberTooHigh, NotAwaited, BadFlags, BadStatus, BadPrice, BadFlow, BadPreDispatch, BadFirst, BadShare, BadLength, BadTrailer, BadNumbers, NotInOrder, BadRecords, NoRoom, NoDirection, OutsideSpan, NotRising}
 pub use Rattle.rules.specs.declared.Answer.{Answer}
 pub use Rattle.rules.specs.declared.RowAnswer.{RowAnswer}
 -- the number of a record and how bytes make it, its issue (N7), how conditions in their order make an outcome, and a test of each number below n
 unfoldable pub use Rattle.rules.specs.Record.{u32_at}
 pub use Rattle.rules.specs.Record.{byte_at, record_number, issue}
-pub use Rattle.rules.specs.Refusal.{number_of, is_accepted, Condition, ◌when◌, judged, number_met}
+pub use Rattle.rules.specs.Refusal.{number, Outcome, number_of, is_accepted, Condition, ◌when◌, judged, number_met}
 unfoldable pub use Rattle.rules.specs.Refusal.{each}
 unfoldable pub use Rattle.rules.specs.Refusal.{open_conditions, interval_conditions, row_conditions}
 -- the calls, a list of them from an opening, and that a tracker came from such a list

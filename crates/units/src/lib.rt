@@ -2,72 +2,97 @@
 
 #![tactic(auto)]
 
-ghost use Rattle.std.specs.Prelude.{◌≡◌, pos, ◌+ℤ◌, ◌-ℤ◌, ◌*ℤ◌};
-ghost use Rattle.std.specs.Int.Signed.{le_z, lt_z};
+ghost use Rattle.std.specs.Prelude.{◌≡◌, ℤ, pos, ◌+ℤ◌, ◌-ℤ◌, ◌*ℤ◌};
 ghost use Rattle.std.specs.Int.{w64};
 ghost use Rattle.std.proofs.Common.{SFits};
-ghost use Rattle.signed.specs.Range.{negative, eq_z, within};
+ghost use Rattle.signed.specs.Range.{negative, within};
 ghost use Rattle.units.specs.Units.{◌+ᶜ◌, ◌+ʰ◌, ◌×ʰ◌, -ʰ◌, ◌+ᵍ◌, ◌-ᵍ◌, lower_of_zero, in_grains};
 
+use std::ops::{Add, Mul, Neg, Sub};
+
 // A price, a residue or an amount, in cents.
-#[derive(Clone, Copy)]
+#[derive(Clone, Copy, Default, PartialEq, Eq, PartialOrd, Ord)]
 pub struct Cents(pub i64);
 
 // A flow, losses or a clamp, in hundredths of a MW.
-#[derive(Clone, Copy)]
+#[derive(Clone, Copy, Default, PartialEq, Eq, PartialOrd, Ord)]
 pub struct Hundredths(pub i64);
 
 // Parts of a cent, as the residue formula gives them and rounding leaves them over (N8): 2,400,000 grains are one cent.
-#[derive(Clone, Copy)]
+#[derive(Clone, Copy, Default, PartialEq, Eq, PartialOrd, Ord)]
 pub struct Grains(pub i64);
 
-impl Cents {
-    pub fn plus(self, other: Cents) -> Cents
-        requires { SFits w64 (self.0 +ℤ other.0) }
-        ensures { result ≡ self +ᶜ other }
+// What the three have in common: each is a whole number of its unit.
+pub trait Quantity: Copy {
+    ghost whole: { Self → ℤ };
+
+    fn whole(self) -> i64
+        ensures { result ≡ whole self };
+
+    fn is_negative(self) -> bool
+        ensures { result ≡ negative (whole self) }
     {
+        self.whole() < 0
+    }
+}
+
+impl Quantity for Cents {
+    ghost whole = { λ a. a.0 };
+
+    fn whole(self) -> i64 {
+        self.0
+    }
+}
+
+impl Quantity for Hundredths {
+    ghost whole = { λ a. a.0 };
+
+    fn whole(self) -> i64 {
+        self.0
+    }
+}
+
+impl Quantity for Grains {
+    ghost whole = { λ a. a.0 };
+
+    fn whole(self) -> i64 {
+        self.0
+    }
+}
+
+// From the lowest to the highest that a quantity may be, both included.
+#[derive(Clone, Copy)]
+pub struct Span<Q> {
+    pub low: Q,
+    pub high: Q,
+}
+
+impl<Q: Quantity> Span<Q> {
+    pub fn contains(self, x: Q) -> bool
+        ensures { result ≡ within (Q.whole self.low) (Q.whole self.high) (Q.whole x) }
+    {
+        self.low.whole() <= x.whole() && x.whole() <= self.high.whole()
+    }
+}
+
+impl Add for Cents {
+    type Output = Cents;
+
+    ghost can_add = { λ a b. SFits w64 (a.0 +ℤ b.0) };
+
+    ghost add_gives = { λ a b sum. sum ≡ a +ᶜ b };
+
+    fn add(self, other: Cents) -> Cents {
         Cents(self.0 + other.0)
     }
+}
 
-    pub fn is_negative(self) -> bool
-        ensures { result ≡ negative self.0 }
-    {
-        self.0 < 0
-    }
-
-    pub fn is_zero(self) -> bool
-        ensures { result ≡ eq_z self.0 (pos 0) }
-    {
-        self.0 == 0
-    }
-
-    pub fn below(self, other: Cents) -> bool
-        ensures { result ≡ lt_z self.0 other.0 }
-    {
-        self.0 < other.0
-    }
-
-    pub fn at_most(self, other: Cents) -> bool
-        ensures { result ≡ le_z self.0 other.0 }
-    {
-        self.0 <= other.0
-    }
-
-    pub fn is_within(self, low: Cents, high: Cents) -> bool
-        ensures { result ≡ within low.0 high.0 self.0 }
-    {
-        if low.at_most(self) {
-            self.at_most(high)
-        } else {
-            false
-        }
-    }
-
+impl Cents {
     // The lower of the amount and 0.
     pub fn lower_of_zero(self) -> Cents
         ensures { result ≡ lower_of_zero self }
     {
-        if self.is_negative() { self } else { Cents(0) }
+        self.min(Cents(0))
     }
 
     pub fn in_grains(self) -> Grains
@@ -78,75 +103,62 @@ impl Cents {
     }
 }
 
-impl Hundredths {
-    pub fn plus(self, other: Hundredths) -> Hundredths
-        requires { SFits w64 (self.0 +ℤ other.0) }
-        ensures { result ≡ self +ʰ other }
-    {
+impl Add for Hundredths {
+    type Output = Hundredths;
+
+    ghost can_add = { λ a b. SFits w64 (a.0 +ℤ b.0) };
+
+    ghost add_gives = { λ a b sum. sum ≡ a +ʰ b };
+
+    fn add(self, other: Hundredths) -> Hundredths {
         Hundredths(self.0 + other.0)
-    }
-
-    pub fn times(self, n: i64) -> Hundredths
-        requires { SFits w64 (n *ℤ self.0) }
-        ensures { result ≡ n ×ʰ self }
-    {
-        Hundredths(n * self.0)
-    }
-
-    pub fn negated(self) -> Hundredths
-        requires { SFits w64 (pos 0 -ℤ self.0) }
-        ensures { result ≡ -ʰ self }
-    {
-        Hundredths(-self.0)
-    }
-
-    pub fn is_negative(self) -> bool
-        ensures { result ≡ negative self.0 }
-    {
-        self.0 < 0
-    }
-
-    pub fn same(self, other: Hundredths) -> bool
-        ensures { result ≡ eq_z self.0 other.0 }
-    {
-        self.0 == other.0
-    }
-
-    pub fn below(self, other: Hundredths) -> bool
-        ensures { result ≡ lt_z self.0 other.0 }
-    {
-        self.0 < other.0
-    }
-
-    pub fn at_most(self, other: Hundredths) -> bool
-        ensures { result ≡ le_z self.0 other.0 }
-    {
-        self.0 <= other.0
-    }
-
-    pub fn is_within(self, low: Hundredths, high: Hundredths) -> bool
-        ensures { result ≡ within low.0 high.0 self.0 }
-    {
-        if low.at_most(self) {
-            self.at_most(high)
-        } else {
-            false
-        }
     }
 }
 
-impl Grains {
-    pub fn plus(self, other: Grains) -> Grains
-        requires { SFits w64 (self.0 +ℤ other.0) }
-        ensures { result ≡ self +ᵍ other }
-    {
+impl Mul<Hundredths> for i64 {
+    type Output = Hundredths;
+
+    ghost can_mul = { λ n a. SFits w64 (n *ℤ a.0) };
+
+    ghost mul_gives = { λ n a product. product ≡ n ×ʰ a };
+
+    fn mul(self, a: Hundredths) -> Hundredths {
+        Hundredths(self * a.0)
+    }
+}
+
+impl Neg for Hundredths {
+    type Output = Hundredths;
+
+    ghost can_neg = { λ a. SFits w64 (pos 0 -ℤ a.0) };
+
+    ghost neg_gives = { λ a negated. negated ≡ -ʰ a };
+
+    fn neg(self) -> Hundredths {
+        Hundredths(-self.0)
+    }
+}
+
+impl Add for Grains {
+    type Output = Grains;
+
+    ghost can_add = { λ a b. SFits w64 (a.0 +ℤ b.0) };
+
+    ghost add_gives = { λ a b sum. sum ≡ a +ᵍ b };
+
+    fn add(self, other: Grains) -> Grains {
         Grains(self.0 + other.0)
     }
+}
 
-    pub fn minus(self, other: Grains) -> Grains
-        requires { SFits w64 (self.0 -ℤ other.0) }
-        ensures { result ≡ self -ᵍ other }
-    {
+impl Sub for Grains {
+    type Output = Grains;
+
+    ghost can_sub = { λ a b. SFits w64 (a.0 -ℤ b.0) };
+
+    ghost sub_gives = { λ a b rest. rest ≡ a -ᵍ b };
+
+    fn sub(self, other: Grains) -> Grains {
         Grains(self.0 - other.0)
     }
 }

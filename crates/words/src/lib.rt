@@ -1,88 +1,61 @@
-// Numbers as bytes hold them, the lowest byte first, and bytes put into a lent buffer. Every writer, also of other crates, has one form: it
-// puts its bytes from a place on, gives the place after them, and leaves every other byte as it was. So a caller chains them.
+// Numbers as bytes hold them, the lowest byte first, and bytes put into a buffer. A writer, also of another crate, puts its bytes at the start
+// of the slice that it is lent, leaves every other byte as it was, and gives how many they are: the next one is lent what is behind them.
 
 #![tactic(auto)]
 
-ghost use Rattle.std.specs.Prelude.{◌≡◌, ◌∷◌, [], ◌+◌, ◌*◌, ◌<◌, ◌≤◌, length};
-ghost use Rattle.rules.specs.Record.{byte_at, u32_at};
-ghost use Rattle.words.specs.Buffer.{little_of, Room, RoomBefore, Puts};
-ghost use Rattle.words.specs.Internal.{IsByte};
+ghost use Rattle.std.specs.Prelude.{◌≡◌, ◌∷◌, [], ◌+◌, ◌<◌, ◌≤◌, length};
+ghost use Rattle.rules.specs.Record.{u32_at};
+ghost use Rattle.words.specs.Buffer.{little_of, Puts};
+ghost use Rattle.words.specs.Internal.{IsI32};
 
-// One byte, widened for the sum of four.
-fn byte(s: &[u8], at: usize) -> u32
-    requires { at < length s.now }
-    ensures { IsByte s.now at result }
-{
-    s[at] as u32
-}
+pub use from_end::FromEnd;
 
-// The sum that `u32_at` is, under a contract that says the sum itself.
-fn four_bytes(s: &[u8], at: usize) -> u32
-    requires { at + 4 ≤ length s.now }
-    ensures { result ≡ byte_at s.now at + 256 * byte_at s.now (at + 1) + 65536 * byte_at s.now (at + 2) + 16777216 * byte_at s.now (at + 3) }
-{
-    byte(s, at) + 256 * byte(s, at + 1) + 65536 * byte(s, at + 2) + 16777216 * byte(s, at + 3)
-}
+mod from_end;
 
+#[inline]
+#[tactic(auto, unfolding(rules::specs::Record::u32_at))]
 pub fn u32_at(s: &[u8], at: usize) -> u32
     requires { at + 4 ≤ length s.now }
     ensures { result ≡ u32_at s.now at }
 {
-    four_bytes(s, at)
+    u32::from_le_bytes([s[at], s[at + 1], s[at + 2], s[at + 3]])
+}
+
+// An i32, as the i64 that is computed with. That it is no larger than an i32 is what lets callers add and multiply what they read.
+#[inline]
+#[tactic(auto, using(std::proofs::lemmas::Int::ints), unfolding(rules::specs::Record::u32_at, rules::specs::Record::i32_at))]
+pub fn i32_at(s: &[u8], at: usize) -> i64
+    requires { at + 4 ≤ length s.now }
+    ensures { IsI32 s.now at result }
+{
+    i64::from(i32::from_le_bytes([s[at], s[at + 1], s[at + 2], s[at + 3]]))
 }
 
 // One byte.
-pub fn put_byte(b: u8, out: &mut [u8], at: usize) -> usize
-    requires { Room (b ∷ []) at out.old }
-    ensures { Puts (b ∷ []) at out.old result out.new }
+#[inline]
+pub fn put_byte(b: u8, out: &mut [u8]) -> usize
+    requires { 0 < length out.old }
+    ensures { Puts (b ∷ []) out.old result out.new }
 {
-    out[at] = b;
-    at + 1
+    out[0] = b;
+    1
 }
 
 // Bytes as they stand: names, the header, records.
-pub fn put_bytes(src: &[u8], out: &mut [u8], at: usize) -> usize
-    requires { Room src.now at out.old }
-    ensures { Puts src.now at out.old result out.new }
+#[inline]
+pub fn put_bytes(src: &[u8], out: &mut [u8]) -> usize
+    requires { length src.now ≤ length out.old }
+    ensures { Puts src.now out.old result out.new }
 {
-    let mut i = 0;
-    while i < src.len() {
-        out[at + i] = src[i];
-        i += 1;
-    }
-    at + i
+    out[..src.len()].copy_from_slice(src);
+    src.len()
 }
 
 // A u32, the lowest byte first: the words of a journal's trailer.
-pub fn put_u32(n: u32, out: &mut [u8], at: usize) -> usize
-    requires { Room (little_of n) at out.old }
-    ensures { Puts (little_of n) at out.old result out.new }
+#[inline]
+pub fn put_u32(n: u32, out: &mut [u8]) -> usize
+    requires { 4 ≤ length out.old }
+    ensures { Puts (little_of n) out.old result out.new }
 {
-    let bytes = [
-        (n % 256) as u8,
-        (n / 256 % 256) as u8,
-        (n / 65536 % 256) as u8,
-        (n / 16777216 % 256) as u8,
-    ];
-    put_bytes(&bytes, out, at)
-}
-
-// One byte before a place.
-pub fn put_byte_before(b: u8, out: &mut [u8], end: usize) -> usize
-    requires { RoomBefore (b ∷ []) end out.old }
-    ensures { Puts (b ∷ []) result out.old end out.new }
-{
-    let at = end - 1;
-    put_byte(b, out, at);
-    at
-}
-
-// Bytes as they stand, before a place.
-pub fn put_bytes_before(src: &[u8], out: &mut [u8], end: usize) -> usize
-    requires { RoomBefore src.now end out.old }
-    ensures { Puts src.now result out.old end out.new }
-{
-    let at = end - src.len();
-    put_bytes(src, out, at);
-    at
+    put_bytes(&n.to_le_bytes(), out)
 }

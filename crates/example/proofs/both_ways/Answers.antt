@@ -8,4 +8,4 @@ pub returns : goal.returns
 returns c latest =
     let o = opening c.args.first c.args.shares in
     let one = (c.interval-one.ensures.call o [] c.open-opened.ensures.ran).ran in
-    corridor_rows {c = 1} c.row-vic_nsw.ensures c.row-nsw_vic.ensures (omega arith) o _ one c.args.bytes.now [] latest
+    corridor_rows {c = 1} c.row.ensures c.row-2.ensures (omega arith) o _ one c.args.bytes.now [] latest

@@ -9,4 +9,4 @@ returns c ok =
     let o = opening_with c.args.first c.args.shares c.args.settings in
     let one = (c.interval-one.ensures.call o [] c.open_with_settings-opened.ensures.ran).ran in
     let given = accepted_as_given o ok in
-    rw (given.0, given.2) at (c.row-shown.ensures.claim o (c.args.bytes.now ∷ []) one (omega arith))
+    rw (given.0, given.2) at (c.row.ensures.claim o (c.args.bytes.now ∷ []) one (omega arith))

@@ -1,28 +1,26 @@
--- What the outcome's case gives, and so the promise.
-use Rattle.std.proofs.Common.{◌≡◌, sym, List, ℕ, ◌≤◌, length, rules}
-use Rattle.journal_rules.specs.Journal.{Accepted, trailer_length, read_outcome, read_of}
-use Rattle.journal_rules.proofs.Accept.{sound}
+-- The first condition met gives the refusal, and none the contents.
+use Rattle.std.proofs.Common.{arith}
+use Rattle.journal_rules.specs.Journal.{read_conditions, read_outcome, read_of}
+use Rattle.journal_rules.proofs.Accept.{counted_part}
 use Rattle.journal_rules.proofs.Promise.{read_promise}
 use Rattle.journal.proofs.read.Goals as goal
 
-long : (s : List ℕ) → read_outcome s ≡ Accepted → trailer_length ≤ length s
-long s e = (sound s e).shape.low
+pub returns-in_err-when : goal.returns-in_err-when
+unfolding read_of read_outcome read_conditions
+returns-in_err-when c = read_promise _ c.type_inv.journal (grind arith)
 
-pub trailer_word-requires : goal.trailer_word-requires
-trailer_word-requires c = (long c.args.journal.now (sym c.in-Accepted.ensures), search rules)
+pub returns-in_err-when-2 : goal.returns-in_err-when-2
+unfolding read_of read_outcome read_conditions
+returns-in_err-when-2 c = read_promise _ c.type_inv.journal (grind arith)
 
-pub trailer_word-requires-in-Accepted : goal.trailer_word-requires-in-Accepted
-trailer_word-requires-in-Accepted c = (long c.args.journal.now (sym c.in-Accepted.ensures), search rules)
+pub returns-in_err-when-3 : goal.returns-in_err-when-3
+unfolding read_of read_outcome read_conditions
+returns-in_err-when-3 c = read_promise _ c.type_inv.journal (grind (arith, counted_part))
 
-pub trailer_word-requires-in-Accepted-2 : goal.trailer_word-requires-in-Accepted-2
-trailer_word-requires-in-Accepted-2 c = (long c.args.journal.now (sym c.in-Accepted.ensures), search rules)
+pub returns-in_err-when-4 : goal.returns-in_err-when-4
+unfolding read_of read_outcome read_conditions
+returns-in_err-when-4 c = read_promise _ c.type_inv.journal (grind (arith, counted_part))
 
-pub returns-in-Accepted : goal.returns-in-Accepted
-unfolding read_of
-returns-in-Accepted c =
-    read_promise _ c.type_inv.journal
-    (rw (sym c.in-Accepted.ensures, c.trailer_word.ensures, c.trailer_word-in-Accepted.ensures, c.trailer_word-in-Accepted-2.ensures))
-
-pub returns-in-Refused : goal.returns-in-Refused
-unfolding read_of
-returns-in-Refused c = read_promise _ c.type_inv.journal (rw (sym c.in-Refused.ensures))
+pub returns : goal.returns
+unfolding read_of read_outcome read_conditions
+returns c = read_promise _ c.type_inv.journal (grind (arith, counted_part))

@@ -1,40 +1,53 @@
--- What the outcome's case gives, and so the promise.
-use Rattle.std.proofs.Common.{◌≡◌, sym, ap, List, ℕ, ◌/◌, length, arith}
-use Rattle.journal_rules.specs.declared.Surviving.TheVariants.{Records}
-use Rattle.journal_rules.specs.Journal.{Accepted, record_length, part}
-use Rattle.journal_rules.specs.Survivors.{survivors, survivors_outcome, surviving_of, survivors_buffer}
-use Rattle.journal_rules.proofs.Accept.{Sound, sound, part_length, given}
+-- As the read, then by the room.
+use Rattle.std.proofs.Common.{◌≡◌, ◌∙◌, ◌/◌, length, arith}
+use Rattle.journal_rules.specs.Journal.{record_length, part}
+use Rattle.journal_rules.specs.Survivors.{survivors, surviving_of, survivors_buffer}
+use Rattle.journal_rules.proofs.Accept.{held_lem, part_length, refused_before, by_room}
 use Rattle.journal_rules.proofs.Survivors.{survivors_length_lem, no_more}
 use Rattle.journal_rules.proofs.Promise.{survivors_promise}
 use Rattle.journal.proofs.survivors.Goals as goal
 
-is_sound : (s : List ℕ) (room : ℕ) → survivors_outcome s room ≡ Accepted → Sound s
-is_sound s room e = sound s (given s room e).read
+pub returns-in_err-read : goal.returns-in_err-read
+unfolding surviving_of survivors_buffer
+returns-in_err-read c =
+    let r = refused_before c.args.journal.now (length c.args.out.now) c.in_err-read.ensures.is in
+    survivors_promise _ _ (grind arith) (grind arith)
 
-pub part-requires : goal.part-requires
-part-requires c = (is_sound c.args.journal.now _ (sym c.in-Accepted.ensures)).shape
+pub survivors_length-requires : goal.survivors_length-requires
+survivors_length-requires c =
+    let h = held_lem c.args.journal.now c.in_ok-read.ensures.is in
+    rw (c.counted_records-records.ensures ∙ h.records) h.passed.order
+
+pub returns-in_err-when : goal.returns-in_err-when
+unfolding surviving_of survivors_buffer
+returns-in_err-when c =
+    let s = c.args.journal.now in
+    let h = held_lem s c.in_ok-read.ensures.is in
+    let e = c.counted_records-records.ensures ∙ h.records in
+    let j = by_room s (length c.args.out.now) h.accepted in
+    survivors_promise _ _ (grind arith) (grind arith)
 
 pub put_survivors-n-requires : goal.put_survivors-n-requires
 put_survivors-n-requires c =
-    let s = c.args.journal.now in
-    rw c.part.ensures ((is_sound s _ (sym c.in-Accepted.ensures)).order, (given s _ (sym c.in-Accepted.ensures)).fits)
+    let h = held_lem c.args.journal.now c.in_ok-read.ensures.is in
+    (rw (c.counted_records-records.ensures ∙ h.records) h.passed.order, grind arith)
 
 pub overflow_cast-result : goal.overflow_cast-result
 overflow_cast-result c =
     let s = c.args.journal.now in
-    let shape = (is_sound s _ (sym c.in-Accepted.ensures)).shape in
-    let put = rw c.part.ensures at c.put_survivors-n.ensures.value in
+    let h = held_lem s c.in_ok-read.ensures.is in
+    let e = c.counted_records-records.ensures ∙ h.records in
+    let put = rw e at c.put_survivors-n.ensures.counted in
+    let shape = h.passed.shape in
     omega (arith, put, survivors_length_lem (part s), no_more (part s), part_length s shape, shape.back, shape.most)
 
-pub returns-in-Accepted : goal.returns-in-Accepted
+pub returns : goal.returns
 unfolding surviving_of survivors_buffer
-returns-in-Accepted c =
+returns c =
     let s = c.args.journal.now in
-    let put = rw c.part.ensures at c.put_survivors-n.ensures.value in
-    let count_is : c.put_survivors-n.result / record_length ≡ length (survivors (part s)) = omega (arith, put, survivors_length_lem (part s)) in
-    let there = rw c.part.ensures at c.put_survivors-n.ensures.out_after in
-    survivors_promise _ _ (rw (sym c.in-Accepted.ensures) (ap Records count_is)) (rw (sym c.in-Accepted.ensures) there)
-
-pub returns-in-Refused : goal.returns-in-Refused
-unfolding surviving_of survivors_buffer
-returns-in-Refused c = survivors_promise _ _ (rw (sym c.in-Refused.ensures)) (rw (sym c.in-Refused.ensures))
+    let h = held_lem s c.in_ok-read.ensures.is in
+    let e = c.counted_records-records.ensures ∙ h.records in
+    let j = by_room s (length c.args.out.now) h.accepted in
+    let put = rw e at c.put_survivors-n.ensures in
+    let n : c.put_survivors-n.result / record_length ≡ length (survivors (part s)) = omega (arith, put.counted, survivors_length_lem (part s)) in
+    survivors_promise _ _ (grind arith) (grind arith)

@@ -1,45 +1,30 @@
--- The bytes counted and those of the survivors from record k on make all.
-use Rattle.std.proofs.Common.{◌≡◌, sym, ap, ◌∙◌, List, ℕ, ◌+◌, ◌<◌, true, false, length, arith, length-append}
-use mathlib.Core.List.{flatten}
+-- A record for each that is not issued again.
+use Rattle.std.proofs.Common.{◌≡◌, refl, ap, sym, ℕ, zero, suc, ◌+◌, Bool, true, false, not, cond, List, ◌∷◌, length, rules, arith}
+use Rattle.std.specs.List.{filter, range_with_len}
+use Rattle.std.proofs.lemmas.Iterator.{YieldsList-from_range}
+use Rattle.std.proofs.lemmas.Iterator.Consumers.{YieldsList-from_filter, count_from_yields_List}
+use borrow.Author.Tests.{tests}
 use Rattle.journal_rules.specs.Journal.{record_count, in_order}
-use Rattle.journal_rules.specs.Survivors.{record_at}
 use Rattle.journal_rules.specs.Internal.{issued_again}
-use Rattle.journal_rules.proofs.Survivors.{rest, rest_all, rest_none, again, not_again, record_length_lem, survivors_length_lem, no_more}
+use Rattle.journal_rules.proofs.Survivors.{rest, rest_all, rest_none, again, not_again, survivors_length_lem}
 use Rattle.journal.proofs.survivors_length.Goals as goal
 
--- how many bytes records end to end have
-abbrev size : List (List ℕ) → ℕ
-size w = length (flatten w)
+abbrev last_of_its_number : List ℕ → ℕ → Bool
+last_of_its_number r i = not (issued_again r i)
 
--- what is left, by whether the record is issued again
-passed : (r : List ℕ) (k : ℕ) → in_order r ≡ true → k < record_count r → issued_again r k ≡ true → size (rest r k) ≡ size (rest r (k + 1))
-passed r k order h e = ap size (again r order k h e)
-
-counted : (r : List ℕ) (k : ℕ) → in_order r ≡ true → k < record_count r → issued_again r k ≡ false → size (rest r k) ≡ 168 + size (rest r (k + 1))
-unfolding flatten
-counted r k order h e =
-    ap size (not_again r order k h e)
-    ∙ length-append (record_at r k) (flatten (rest r (k + 1)))
-    ∙ ap (λ (n : ℕ). n + size (rest r (k + 1))) (record_length_lem r k h)
-
-pub loop-k-init : goal.loop-k-init
-loop-k-init c = record { counted = omega (arith, ap size (rest_all c.args.records.now)) }
-
-pub loop-k-preserved-then-issued_again : goal.loop-k-preserved-then-issued_again
-loop-k-preserved-then-issued_again c = record {
-  counted = omega (arith, passed c.args.records.now c.loop-k.k c.requires c.loop-k-test.true (sym c.if-issued_again.ensures));
-}
-
-pub overflow_add-bytes : goal.overflow_add-bytes
-overflow_add-bytes c =
-    let r = c.args.records.now in
-    omega (arith, counted r c.loop-k.k c.requires c.loop-k-test.true (sym c.if-issued_again.ensures), survivors_length_lem r, no_more r)
-
-pub loop-k-preserved : goal.loop-k-preserved
-loop-k-preserved c = record {
-  counted = omega (arith, counted c.args.records.now c.loop-k.k c.requires c.loop-k-test.true (sym c.if-issued_again.ensures));
-}
+counted : (r : List ℕ) → in_order r ≡ true → (n i : ℕ) → i + n ≡ record_count r → length (filter (last_of_its_number r) (range_with_len i n)) ≡ length (rest r i)
+counted r o zero i h = ap length (sym (rest_none r i (omega arith)))
+counted r o (suc n) i h = go (filter (last_of_its_number r) (range_with_len (i + 1) n)) (counted r o n (i + 1) (omega arith)) (issued_again r i) refl
+  where
+    go : (others : List ℕ) → length others ≡ length (rest r (i + 1)) → (t : Bool) → issued_again r i ≡ t → length (cond (not (issued_again r i)) (i ∷ others) others) ≡ length (rest r i)
+    go others after true e = rw (e, again r o i (omega arith) e) after
+    go others after false e = rw (e, not_again r o i (omega arith) e) (ap suc after)
 
 pub returns : goal.returns
-unfolding flatten
-returns c = omega (arith, ap size (rest_none c.args.records.now c.loop-k.k c.loop-k-test.false))
+returns c =
+    let r = c.args.records.now in
+    let n = record_count r in
+    let kept : c.count.result ≡ length (filter (last_of_its_number r) (range_with_len 0 n)) =
+    count_from_yields_List _ _ c.count.ensures.ran
+    (YieldsList-from_filter _ (last_of_its_number r) (YieldsList-from_range 0 n n c.filter.ensures.source (omega arith)) c.filter.ensures.closure (λ x b q k. search (rules, tests))) in
+    omega (arith, kept, counted r c.requires n 0 (omega arith), ap length (rest_all r), survivors_length_lem r)

@@ -1,36 +1,21 @@
--- What is left at the loop's head is the line of direction d, and then those after it.
-use Rattle.std.proofs.Common.{◌≡◌, refl, List, [], ◌∷◌, ℕ, ◌+◌, ◌<◌, drop, get_or, add-one, arith}
-use mathlib.Core.List.{map}
-use lib.ListN.{drop_of_length-le}
-use lib.Seq.{drop-cons}
-use Rattle.words.proofs.Parts.{Left, begin, room, next, finish}
-use Rattle.tracker.specs.Promise.{Row, no_row}
-use Rattle.listing.specs.Internal.{row_text, EightBounded}
+-- Each direction's line behind those before it.
+use Rattle.words.proofs.Parts.{no_part, part_room, part_put}
+use Rattle.tracker.specs.Promise.{no_row}
+use Rattle.listing.specs.Internal.{row_text, rows_shown}
+use Rattle.listing.proofs.EightDirections.{shown_at}
 use Rattle.listing.proofs.rows.Goals as goal
 
-own : (all : List Row) → EightBounded all → (d : ℕ) → d < 8 → {all_lines d₀ out : List ℕ} {from at : ℕ}
-    → Left all_lines (map row_text (drop d all)) d₀ from out at
-    → Left all_lines (row_text (get_or all d no_row) ∷ map row_text (drop (d + 1) all)) d₀ from out at
-own all eight d h l = rw (add-one d) (rw (drop-cons all d no_row (omega (arith, eight.eight))) at l)
-
 pub loop-d-init : goal.loop-d-init
-loop-d-init c = record { within = omega arith; length_kept = refl; left = begin refl c.requires.1 }
+loop-d-init c = no_part c.args.out.now
 
-pub row_line-e-requires : goal.row_line-e-requires
-row_line-e-requires c =
-    let h : c.loop-d.d < 8 = omega arith in
-    (c.requires.0.bounded c.loop-d.d h, room (own c.args.all c.requires.0 c.loop-d.d h c.loop-d.invariant.left))
+pub row_line-n-requires : goal.row_line-n-requires
+row_line-n-requires c =
+    let l = c.loop-d in
+    let room = part_room row_text (rows_shown c.args.t.now) l.d no_row c.loop-d-test.true l.invariant c.requires.1 in
+    (c.row.ensures.bounded, rw (shown_at c.row.ensures c.loop-d-test.true) at room)
 
 pub loop-d-preserved : goal.loop-d-preserved
 loop-d-preserved c =
-    let h : c.loop-d.d < 8 = omega arith in
-    record {
-      within = omega arith;
-      length_kept = omega (arith, c.row_line-e.auto.out, c.loop-d.invariant.length_kept);
-      left = next (own c.args.all c.requires.0 c.loop-d.d h c.loop-d.invariant.left) c.row_line-e.ensures;
-    }
-
-pub returns : goal.returns
-returns c =
-    let none : drop c.loop-d.d c.args.all ≡ [] = drop_of_length-le c.args.all {i = c.loop-d.d} (omega (arith, c.requires.0.eight, c.loop-d-test.false)) in
-    finish (rw none at c.loop-d.invariant.left)
+    let l = c.loop-d in
+    let at = shown_at c.row.ensures c.loop-d-test.true in
+    part_put row_text (rows_shown c.args.t.now) l.d no_row c.loop-d-test.true l.invariant (rw at c.row_line-n.ensures)

@@ -1,16 +1,6 @@
--- The tracker is the run of the survivors passed; their lines are there, and those of the survivors from record i on are left to put.
-use Rattle.std.proofs.Common.{◌≡◌, List, ℕ, length}
-use mathlib.Core.List.{flatten}
-use Rattle.words.proofs.Parts.{Left}
-use Rattle.tracker.specs.Promise.{run}
-use Rattle.journal_rules.specs.Survivors.{survivors}
-use Rattle.listing.specs.Listing.{opened_at, opened_lines}
-use Rattle.listing.proofs.LinesByCase.{rest}
+-- The lines of the records passed are there.
+use Rattle.listing.proofs.SoFar.{SoFar}
 use Rattle.listing.proofs.run.Given as goal
 
 abbrev pub invariant-loop-i : goal.invariant-loop-i
-invariant-loop-i l =
-    (length l.out ≡ length l.fn.out)
-    × ((passed : List (List ℕ))
-    × (l.t ≡ run (opened_at l.first) passed)
-    × Left (flatten (opened_lines l.first (survivors l.records))) (rest (opened_at l.first) l.records l.i passed) l.fn.out l.at l.out l.e)
+invariant-loop-i l = SoFar l.first l.records l.i l.t l.fn.out l.n l.out

@@ -1,44 +1,28 @@
--- After each turn the sums are the definition's over one line more; they stay small, since a corridor has two lines at most.
-use Rattle.std.proofs.Common.{◌≡◌, ◌≤◌, ◌+◌, refl, ap, nat_abs, add-one, arith}
+-- Each turn adds the next line; the sums stay small.
+use Rattle.std.proofs.Common.{◌≤◌, nat_abs, arith}
 use Rattle.signed.proofs.Calc.{sum_fits}
 use Rattle.residue.specs.Internal.{highest_grains}
 use Rattle.residue.proofs.LineBounds.{line_in_range, line_small}
-use Rattle.residue.proofs.CorridorSum.{corridor_residue_of, grains_so_far, flow_so_far}
+use Rattle.residue.proofs.CorridorSum.{one_more, sum_so_far, flow_so_far, all_lines}
 use Rattle.residue.proofs.corridor.Goals as goal
 
-pub loop-j-init : goal.loop-j-init
-loop-j-init c = record { grains_are = refl; flow_is = refl }
-
-pub plus-sum-requires : goal.plus-sum-requires
-plus-sum-requires c =
+pub add-sum-requires : goal.add-sum-requires
+add-sum-requires c =
     let r = c.corridor_at-at.result in
-    let few : c.loop-j.j ≤ 2 = omega (arith, c.loop-j-test.true, c.corridor_at-at.ensures.few) in
-    let i = r.first + c.loop-j.j in
-    let small : nat_abs c.grains.result.0 ≤ highest_grains = rw c.grains.ensures (line_small (line_in_range c.requires.1 _ _ i)) in
-    sum_fits c.loop-j.sum.0 c.grains.result.0
-    (omega (arith, small, grains_so_far c.requires.1 r.to r.from r.first c.loop-j.j few c.loop-j.sum c.loop-j.invariant.grains_are))
+    let small : nat_abs c.grains.result.0 ≤ highest_grains =
+    rw (c.grains.ensures, c.price-to.ensures, c.price-from.ensures) (line_small (line_in_range c.requires.1 r.to r.from c.loop-i.i)) in
+    sum_fits c.loop-i.sum.0 c.grains.result.0 (omega (arith, sum_so_far c.loop-i.invariant c.requires.1))
 
-pub plus-flow-requires : goal.plus-flow-requires
-plus-flow-requires c =
-    let r = c.corridor_at-at.result in
-    let few : c.loop-j.j ≤ 2 = omega (arith, c.loop-j-test.true, c.corridor_at-at.ensures.few) in
-    sum_fits c.loop-j.flow.0 _
-    (omega (arith, flow_so_far c.requires.1 r.to r.from r.first c.loop-j.j few c.loop-j.flow c.loop-j.invariant.flow_is, c.requires.1.flow (r.first + c.loop-j.j)))
+pub add-flow-requires : goal.add-flow-requires
+add-flow-requires c = sum_fits c.loop-i.flow.0 _ (omega (arith, flow_so_far c.loop-i.invariant c.requires.1, c.requires.1.flow c.loop-i.i))
 
-pub loop-j-preserved : goal.loop-j-preserved
-loop-j-preserved c = record {
-  grains_are = rw (add-one, c.plus-sum.ensures, c.loop-j.invariant.grains_are, c.grains.ensures);
-  flow_is = rw (add-one, c.plus-flow.ensures, c.loop-j.invariant.flow_is);
-}
+pub loop-i-preserved : goal.loop-i-preserved
+loop-i-preserved c =
+    rw (c.add-sum.ensures, c.add-flow.ensures, c.grains.ensures, c.price-to.ensures, c.price-from.ensures, c.corridor_at-at.ensures.is)
+    (one_more c.loop-i.invariant (rw (← c.corridor_at-at.ensures.is) c.loop-i-test.true))
 
-pub in_cents-residue-requires : goal.in_cents-residue-requires
-in_cents-residue-requires c =
-    let r = c.corridor_at-at.result in
-    grains_so_far c.requires.1 r.to r.from r.first c.loop-j.j (omega arith) c.loop-j.sum c.loop-j.invariant.grains_are
+pub in_cents-requires : goal.in_cents-requires
+in_cents-requires c = sum_so_far c.loop-i.invariant c.requires.1
 
 pub returns : goal.returns
-returns c =
-    let r = c.corridor_at-at.result in
-    let all : c.loop-j.j ≡ r.lines = omega arith in
-    rw (c.in_cents-residue.ensures, c.is_negative.ensures, c.loop-j.invariant.grains_are, c.loop-j.invariant.flow_is, all)
-    (ap (corridor_residue_of c.args.prices c.args.shares c.args.lines) c.corridor_at-at.ensures.is)
+returns c = rw (c.in_cents.ensures, c.is_negative.ensures) (all_lines c.loop-i.invariant (rw (← c.corridor_at-at.ensures.is) c.loop-i-test.false))

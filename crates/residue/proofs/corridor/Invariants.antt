@@ -1,6 +1,6 @@
--- The sums are the definition's over the corridor's first j lines.
+-- The sums are the definition's over the corridor's lines up to line i.
 use Rattle.residue.proofs.CorridorSum.{Summed}
 use Rattle.residue.proofs.corridor.Given as goal
 
-abbrev pub invariant-loop-j : goal.invariant-loop-j
-invariant-loop-j l = Summed l.p l.q l.shares l.lines l.first l.j l.sum l.flow
+abbrev pub invariant-loop-i : goal.invariant-loop-i
+invariant-loop-i l = Summed l.fn.prices l.fn.shares l.fn.lines l.fn.c l.i l.sum l.flow

@@ -12,19 +12,16 @@ built : (set : Settings) (shares : List ℕ) {n m k : ℕ} {ds es : List Directi
 built set shares e f g = λ i. tracker set shares (e i) (f i) (g i)
 
 pub events-events-requires : goal.events-events-requires
-events-events-requires c = readable c.args.t c.requires.0 c.args.bytes.now c.requires.1 (search rules)
+events-events-requires c = readable c.args.t c.requires.0 c.args.r.now c.requires.1 (search rules)
 
 pub step_all-directions-requires : goal.step_all-directions-requires
-step_all-directions-requires c = all_steppable c.args.t c.requires.0 c.args.bytes.now c.requires.1 c.events-events.ensures
-
-pub number-n-requires : goal.number-n-requires
-number-n-requires c = (accepted_is c.args.t.awaited c.args.bytes.now c.requires.1).whole
+step_all-directions-requires c = all_steppable c.args.t c.requires.0 c.args.r.now c.requires.1 c.events-events.ensures
 
 pub overflow_add-result : goal.overflow_add-result
-overflow_add-result c = rw c.number-n.ensures (omega (arith, (accepted_is c.args.t.awaited c.args.bytes.now c.requires.1).in_range))
+overflow_add-result c = rw c.number-n.ensures (omega (arith, (accepted_is c.args.t.awaited c.args.r.now c.requires.1).in_range))
 
 pub returns : goal.returns
 unfolding advanced
 returns c =
     let n = c.number-n.ensures in
-    built c.args.t.settings c.args.t.shares n (omega (arith, n)) (c.step_all-directions.ensures ∙ stepped_is c.args.t c.requires.0 c.args.bytes.now c.requires.1 c.events-events.ensures)
+    built c.args.t.settings c.args.t.shares n (omega (arith, n)) (c.step_all-directions.ensures ∙ stepped_is c.args.t c.requires.0 c.args.r.now c.requires.1 c.events-events.ensures)

@@ -1,14 +1,19 @@
--- 17 with the row of zeros, or the direction's row, which is the one worked out.
+-- By its outcome: 17 with the row of zeros, or the direction's row, which is the one worked out.
+use Rattle.std.proofs.Common.{rules, ◌≡◌, refl, sym, Ok, Err}
 use Rattle.rules.specs.Refusal.{row_conditions, row_outcome}
-use Rattle.rules.specs.Tracker.{row_answer}
+use Rattle.rules.specs.Tracker.{no_row, row_answer}
 use Rattle.tracker.proofs.Promise.{row_promise}
-use borrow.Author.Tests.{lt-ltb, le-ltb}
 use Rattle.tracker.proofs.row.Goals as goal
 
-pub returns-then-direction-gt7 : goal.returns-then-direction-gt7
+pub returns-in-Ok : goal.returns-in-Ok
 unfolding row_answer row_outcome row_conditions
-returns-then-direction-gt7 c = row_promise c.args.tracker c.requires c.args.direction (rw (lt-ltb _ _ c.if-direction-gt7.true, c.no_row-none.ensures))
+returns-in-Ok c =
+    let e : row_outcome c.args.direction ≡ Ok tt = sym c.in-Ok.ensures in
+    row_promise c.args.tracker.now c.requires c.args.direction (rw (c.when-outcome.ensures, e, c.row_of-row.ensures) refl)
 
-pub returns : goal.returns
+pub returns-in-Err : goal.returns-in-Err
 unfolding row_answer row_outcome row_conditions
-returns c = row_promise c.args.tracker c.requires c.args.direction (rw (le-ltb _ _ c.if-direction-gt7.false, c.row_of-shown.ensures))
+returns-in-Err c =
+    let e : row_outcome c.args.direction ≡ Err c.in-Err.field-0 = sym c.in-Err.ensures in
+    let zeros : c.default-row.result ≡ no_row = search rules in
+    row_promise c.args.tracker.now c.requires c.args.direction (rw (c.when-outcome.ensures, e, zeros) refl)
