@@ -46,10 +46,10 @@ fn as_records(bytes: &[u8]) -> &[Record]
 }
 
 // The n of a record, which it starts with.
-fn number_of(record: &Record) -> u32
-    ensures { result ≡ record_number record.now }
+fn number_of(bytes: &Record) -> u32
+    ensures { result ≡ record_number bytes.now }
 {
-    words::u32_at(record, 0)
+    words::u32_at(bytes, 0)
 }
 
 #[tactic(auto, using(journal_rules::proofs::OneByOne::how_many, journal_rules::proofs::OneByOne::number_in), unfolding(journal_rules::specs::Journal::first_number))]

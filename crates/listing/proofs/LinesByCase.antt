@@ -75,9 +75,13 @@ module _ (first : ℕ) (bs : List (List ℕ)) {a : Answer} (p : OpenPromise (ope
   pub unopened : (why : Refusal) → a.outcome ≡ Err why → opened_lines first bs ≡ ended_by (number why)
   unopened why e = by_number (ap number_of e)
 
-pub no_records : (first : ℕ) (r : List ℕ) → length r < 168 → flatten (record_lines first (survivors r)) ≡ []
-unfolding record_lines flatten
+no_records : (first : ℕ) (r : List ℕ) → length r < 168 → record_lines first (survivors r) ≡ []
+unfolding record_lines
 no_records first r l = let none : record_count r ≤ 0 = omega arith in rw (S.rest_all r, S.rest_none r 0 none)
+
+pub no_text : (first : ℕ) (r : List ℕ) → length r < 168 → flatten (record_lines first (survivors r)) ≡ []
+unfolding flatten
+no_text first r l = rw (no_records first r l)
 
 pub some_records : (first : ℕ) (r : List ℕ) → in_order r ≡ true → 168 ≤ length r → record_lines first (survivors r) ≡ opened_lines first (survivors r)
 unfolding record_lines

@@ -165,7 +165,7 @@ fn run(first: u32, records: &[u8], out: &mut [u8]) -> usize
 }
 
 // What the records of a journal give that starts at the first n.
-#[tactic(auto, using(crate::proofs::LinesByCase::no_records, crate::proofs::LinesByCase::some_records, std::proofs::lemmas::Grind::common_steps))]
+#[tactic(auto, using(crate::proofs::LinesByCase::no_text, crate::proofs::LinesByCase::some_records, std::proofs::lemmas::Grind::common_steps))]
 fn opened(first: u32, records: &[u8], out: &mut [u8]) -> usize
     requires { (in_order records.now ≡ true) × (length (flatten (record_lines first (survivors records.now))) ≤ length out.old) }
     ensures { Puts (flatten (record_lines first (survivors records.now))) out.old result out.new }

@@ -9,6 +9,8 @@ ghost use Rattle.rules.specs.Bounds.{BoundedPeriod};
 
 use rules::{Managed, Notice, Period};
 
+// Each function that adds to n asks that it is an interval's number: n is the `u32` of an `Event`, so no type carries that.
+
 // No period and reached: from the next interval to the end of the next half-hour.
 fn started(n: u32, reach: bool) -> Managed
     requires { n ≤ highest_number }

@@ -4,9 +4,7 @@
 #![tactic(auto)]
 
 ghost use Rattle.std.specs.Prelude.{ℕ, ◌+◌, ◌*◌, ◌<◌, ◌≤◌, ◌^◌, nat_abs, length, IfOk};
-ghost use Rattle.rules.specs.declared.Answer.{Answer};
-ghost use Rattle.rules.specs.declared.Row.{Row};
-ghost use Rattle.tracker.specs.Promise.{Came, RowBounds, highest_sum};
+ghost use Rattle.tracker.specs.Promise.{Answer, Row, Came, RowBounds, highest_sum};
 
 use readers::ControlView;
 use rules::{Answer, DirectionSettings, Period, RECORD, Refusal, Row, Settings, Tracker};
@@ -79,7 +77,11 @@ pub fn print_row(rt: &impl Print, row: Row) -> io::Result<()>
     print_bool(rt, shown.blocked)?;
     print_bool(rt, shown.flag)?;
     print_quantity(rt, shown.clamp, b',')?;
-    print_number(rt, shown.notice.map_or(0, |notice| notice as u64), b',')?;
+    print_number(
+        rt,
+        shown.notice.map_or(0, |notice| u64::from(u8::from(notice))),
+        b',',
+    )?;
     print_quantity(rt, shown.leftover, b'\n')
 }
 

@@ -13,7 +13,7 @@ use Rattle.rules.specs.Settings.{threshold_ok, edge_at, edge_ok, step_for, step_
 use Rattle.rules.specs.Interval.{place}
 use Rattle.rules.specs.Record.{u32_at, record_number, flags, present, status_byte, zero_bytes, price, metered, target, losses, pre_dispatch_price, pre_dispatch_flow, pre_dispatch_losses}
 
--- The number of a refusal.
+-- The number of a refusal: document 01's, and N2's 19 and 20. There is no 18.
 abbrev pub number : Refusal → ℕ
 number NotARecord = 1
 number NumberTooHigh = 2
@@ -48,7 +48,7 @@ abbrev pub is_accepted : Outcome → Bool
 is_accepted (Ok given) = true
 is_accepted (Err why) = false
 
--- A refusal, and the condition under which it is met.
+-- A condition under which a call is refused, and for what.
 infix 70 ◌when◌
 pub record Condition : Type 0 where
   pub met : Bool

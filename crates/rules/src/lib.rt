@@ -2,7 +2,8 @@
 
 #![tactic(auto)]
 
-ghost use Rattle.std.specs.Prelude.{◌≡◌, [], ◌∷◌};
+ghost use Rattle.std.specs.Prelude.{◌≡◌, [], ◌∷◌, Some};
+ghost use Rattle.rules.specs.Interval.{notice_number};
 ghost use Rattle.rules.specs.Refusal.{number, ◌when◌, judged};
 
 use units::{Cents, Grains, Hundredths};
@@ -102,6 +103,14 @@ pub enum Period {
 pub enum Notice {
     Start = 1,
     End = 2,
+}
+
+impl From<Notice> for u8 {
+    ghost from_gives = { λ notice n. n ≡ notice_number (Some notice) };
+
+    fn from(notice: Notice) -> u8 {
+        notice as u8
+    }
 }
 
 // What rule 4 leaves: the period, and the notice, if there is one.

@@ -1,4 +1,5 @@
--- A test of each of an array's items, and the same by number.
+-- A test of each of an array's items, and the same by number. The length stands first in each law: `grind` takes a law up at the first call in its
+-- conclusion that shows its variables, and at a test under a λ it finds none.
 -- Assumes nothing.
 use mathlib.Core.Path.{◌≡◌, refl}
 use mathlib.Core.List.{List, []}

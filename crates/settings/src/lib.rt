@@ -20,7 +20,7 @@ const EDGES: [Cents; 3] = [Cents(-500_000), Cents(-100_000), Cents(100_000)];
 const OFFSET: Hundredths = Hundredths(2_000);
 
 // The steps in hundredths of a MW (000, table 2): a row for each direction, in it an entry for each band of net. Each fits in 16 bits,
-// and `step_for` widens it (N5).
+// and `widened` widens it (N5).
 const STEPS: [[i16; 4]; 8] = [
     [-10_000, -5_000, 0, 3_000], // NSW1_QLD1
     [-10_000, -5_000, 0, 3_000], // QLD1_NSW1

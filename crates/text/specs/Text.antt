@@ -21,7 +21,3 @@ number_cell n ender = dec_of n ++ (ender ∷ [])
 
 unfoldable pub signed_cell : ℤ → ℕ → List ℕ
 signed_cell z ender = signed_of z ++ (ender ∷ [])
-
--- above every magnitude that is printed: no sum of a tracker reaches it
-abbrev pub highest_printed : ℕ
-highest_printed = 6400000000000000

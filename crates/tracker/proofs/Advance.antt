@@ -26,7 +26,7 @@ use Rattle.rules.proofs.Replay.{event_number}
 use Rattle.rules.proofs.RecordRanges.{target_sum_bound, share_bound}
 use Rattle.rules.specs.Market.{of_directions}
 use Rattle.events.specs.Internal.{Readable}
-use Rattle.step.specs.Internal.{terms_of, Steppable}
+use Rattle.step.specs.Internal.{Steppable}
 use Rattle.tracker.specs.Internal.{no_event, AllSteppable, stepped, all_stepped}
 
 -- What is accepted is the record of the bytes; what is refused is refused for that reason.
@@ -60,7 +60,7 @@ module _ (t : Tracker) (came : Came t) (b : List ℕ) (ok : accepts t.awaited b 
       go i (yes l) = rw shares_are (share_bound came.opening i l)
       go i (no l) = rw (get_or-eq_default t.shares 0 {n = i} (omega arith)) (omega arith)
 
-  steppable : (d : ℕ) → d < 8 → Steppable (terms_of t.settings d) (event_of t.shares d b) (direction_of t d)
+  steppable : (d : ℕ) → d < 8 → Steppable t.settings d (event_of t.shares d b) (direction_of t d)
   steppable d l =
       let sizes = event_size came.opening d b own in
       record {

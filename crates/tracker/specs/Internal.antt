@@ -8,7 +8,7 @@ use Rattle.rules.specs.declared.Settings.{Settings}
 use Rattle.rules.specs.Interval.{step_of}
 use Rattle.rules.specs.Market.{of_directions}
 use Rattle.rules.specs.Tracker.{blank}
-use Rattle.step.specs.Internal.{terms_of, Steppable}
+use Rattle.step.specs.Internal.{Steppable}
 
 -- stands where a list of events ends
 abbrev pub no_event : Event
@@ -26,7 +26,7 @@ no_event = record {
 
 -- each direction's settings, state and event allow a step
 pub record AllSteppable (set : Settings) (events : List Event) (ss : List Direction) : Type 0 where
-  pub each : (d : ℕ) → d < 8 → Steppable (terms_of set d) (get_or events d no_event) (get_or ss d blank)
+  pub each : (d : ℕ) → d < 8 → Steppable set d (get_or events d no_event) (get_or ss d blank)
 
 -- a direction's state after its event, and those of all eight
 abbrev pub stepped : Settings → List Event → List Direction → ℕ → Direction

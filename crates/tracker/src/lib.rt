@@ -13,7 +13,6 @@ use record::Record;
 use rules::{
     Answer, Direction, Event, HIGHEST_NUMBER, Refusal, Row, RowAnswer, SWAMPED, Settings, Tracker,
 };
-use step::Terms;
 
 // Is no share above 1000?
 fn shares_ok(shares: [u16; 6]) -> bool
@@ -76,19 +75,12 @@ pub fn open(first: u32, shares: [u16; 6]) -> Answer
     open_with_settings(first, shares, settings::document01())
 }
 
-// One step for each direction. It is handed what it reads of the settings alone: else each step would copy them whole.
+// One step for each direction.
 fn step_all(settings: Settings, events: [Event; 8], directions: [Direction; 8]) -> [Direction; 8]
     requires { AllSteppable settings events directions }
     ensures { result ≡ all_stepped settings events directions }
 {
-    std::array::from_fn(|d| {
-        let terms = Terms {
-            threshold: settings.threshold,
-            edges: settings.edges,
-            own: settings.directions[d],
-        };
-        step::step(terms, events[d], directions[d])
-    })
+    std::array::from_fn(|d| step::step(&settings, d, events[d], directions[d]))
 }
 
 // The tracker after an accepted record.

@@ -1,0 +1,2 @@
+-- What holds of the number of a band.
+pub mod BandNumber
