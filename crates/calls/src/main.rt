@@ -10,8 +10,8 @@ ghost use Rattle.calls.specs.Internal.{call_words, word_of, part_end};
 use journal::TRAILER;
 use report::{SETTINGS, print_number};
 use rules::{Answer, Refusal, Settings, Tracker};
-use std::io;
 use std::rt::Files;
+use std::{array, io};
 
 // The length of a call: 52 words of four bytes.
 const CALL: usize = 208;
@@ -63,11 +63,7 @@ fn part_of<'a>(call: &[u8; CALL], records: &'a [u8]) -> Option<&'a [u8]>
 
 // The shares of an opening, if each is a u16, as the library takes it.
 fn shares_of(call: &[u8; CALL]) -> Option<[u16; 6]> {
-    let mut shares = [0; 6];
-    for (k, share) in shares.iter_mut().enumerate() {
-        *share = u16::try_from(word(call, 2 + k)).ok()?;
-    }
-    Some(shares)
+    array::try_from_fn(|k| u16::try_from(word(call, 2 + k))).ok()
 }
 
 // The settings of an opening: 44 numbers, from word 8 on.
@@ -76,7 +72,8 @@ fn settings_of(call: &[u8; CALL]) -> Settings {
 }
 
 impl<'a> Call<'a> {
-    // The call of a kind and its numbers; none, if no call of the library can be made of them.
+    // The call of a kind and its numbers; none, if no call of the library can be made of them. A script's file has the kinds by number, and they are
+    // read here alone.
     fn parse(call: &[u8; CALL], records: &'a [u8]) -> Option<Call<'a>> {
         match word(call, 0) {
             // open FIRST S0 .. S5

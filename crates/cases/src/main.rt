@@ -5,6 +5,7 @@
 #![tactic(auto)]
 
 use journal::LONGEST_JOURNAL;
+use report::{Control, Trader};
 use std::rt::Files;
 use std::{env, io};
 
@@ -21,10 +22,9 @@ fn print_listing<R: Files + Print>(rt: &R, name: &str) -> io::Result<()> {
 fn print_all_rows<R: Files + Print>(rt: &R, name: &str) -> io::Result<()> {
     let mut input = [0u8; LONGEST_JOURNAL + 1];
     let journal = report::read_argument(rt, name, &mut input)?;
-    let open = |first| tracker::open(first, [500; 6]);
     report::print_header(rt)?;
-    report::print_journal(rt, journal, open, |row| report::print_row(rt, row))?;
-    report::print_journal(rt, journal, open, |row| report::print_for_trader(rt, row))
+    report::print_journal(rt, journal, &Control)?;
+    report::print_journal(rt, journal, &Trader)
 }
 
 // The journal that an argument names.

@@ -1,4 +1,4 @@
--- There are four bands, whatever the edges.
+-- The number of a band.
 -- Assumes nothing.
 use mathlib.Core.Bool.{Bool, true, false, cond}
 use mathlib.Core.List.{List}
@@ -7,6 +7,7 @@ use lib.Dec.{lit≤}
 use Rattle.units.specs.declared.Cents.{Cents}
 use Rattle.rules.specs.Interval.{below_edge, band}
 
+-- There are four bands, numbered from 0, whatever the edges.
 pub band_size : (edges : List Cents) (net : Cents) → band edges net < 4
 band_size edges net = go (below_edge edges 0 net) (below_edge edges 1 net) (below_edge edges 2 net)
   where

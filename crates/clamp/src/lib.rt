@@ -24,7 +24,8 @@ fn counted(again: bool, count: u8) -> u8
     if again { (count + 1).min(3) } else { 0 }
 }
 
-// The band of net: below the first edge; from it to below the second; from that to below the third; the third and up.
+// The band of net: below the first edge; from it to below the second; from that to below the third; the third and up. It compares and returns a
+// number, since document 01 names the form: "net compared to bands, then a match on the band number picks the step".
 fn band(edges: [Cents; 3], net: Cents) -> u8
     ensures is { result ≡ band edges net }
     ensures few { result < 4 }
@@ -40,7 +41,7 @@ fn band(edges: [Cents; 3], net: Cents) -> u8
     }
 }
 
-// The step for a band.
+// The step for a band: the match on the band's number that document 01 names beside `band`, and no index into the steps.
 fn step_for(steps: [Hundredths; 4], band: u8) -> Hundredths
     requires { band < 4 }
     ensures { result ≡ step_for steps band }

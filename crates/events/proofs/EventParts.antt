@@ -7,8 +7,9 @@ use Prim.Native.Nat.{ℕ, ◌≤◌, ◌<◌}
 use native.Mathlib.Nat.{le_trans}
 use denote.Ref.{Bor}
 use lib.Dec.{lit≤}
-use lib.ListN.{get_or, replicate}
+use Rattle.std.specs.Prelude.{Option, Some, None, pos, is_some, unwrap_or}
 use Rattle.units.specs.declared.Cents.{Cents}
+use Rattle.units.specs.Units.{cents}
 use Rattle.rules.specs.declared.Line.{Line}
 use Rattle.rules.specs.declared.Residue.{Residue}
 use Rattle.rules.specs.Residue.{no_residue}
@@ -24,7 +25,7 @@ use Rattle.record.specs.Internal.{header}
 use Rattle.residue.specs.Internal.{InRange, highest_a, highest_b}
 use Rattle.residue.proofs.ResidueArray.{at, loop_sum_is}
 use Rattle.events.specs.declared.Parts.{Parts}
-use Rattle.events.specs.Internal.{Readable, pre_dispatch_of, event_from}
+use Rattle.events.specs.Internal.{Readable, pre_dispatch_of, ahead_of, event_from}
 
 module _ {shares b : List ℕ} (r : Readable shares b) where
   sound : Sound (record_number b) b
@@ -45,17 +46,18 @@ module _ {shares b : List ℕ} (r : Readable shares b) where
   pub pre_dispatch_in_range : InRange (pre_dispatch_prices b) shares (pre_dispatch_lines b)
   pre_dispatch_in_range = in_range (lit≤ tt) (lit≤ tt) (pre_dispatch_ranged (record_number b) b sound)
 
--- without pre-dispatch its residues count for nothing
+-- the estimate, from a residue that counts for nothing without pre-dispatch
 next_is : (flag : Bool) (n : ℕ) (p : Bool) (pre_dispatch : ℕ → Residue) (d : ℕ) → d < 8
-    → next_of flag n p (get_or (cond p (of_directions pre_dispatch) (replicate 8 no_residue)) d no_residue).cents ≡ next_of flag n p (pre_dispatch d).cents
+    → let residues = cond p (Some (of_directions pre_dispatch)) None in
+    next_of flag n (is_some residues) (unwrap_or (ahead_of residues d) (cents (pos 0))) ≡ next_of flag n p (pre_dispatch d).cents
 next_is flag n true pre_dispatch d h = ap (λ (x : Residue). next_of flag n true x.cents) (at_direction pre_dispatch no_residue d h)
 next_is flag n false pre_dispatch d h = (next_law flag n false _).absent refl ∙ rw ((next_law flag n false (pre_dispatch d).cents).absent refl)
 
 -- What is put together from these parts is what the record says of the eight directions.
-module _ (shares : List ℕ) (r : Bor (List ℕ)) {h : Header} {own ahead : List Residue} {sum : Cents}
+module _ (shares : List ℕ) (r : Bor (List ℕ)) {h : Header} {own : List Residue} {ahead : Option (List Residue)} {sum : Cents}
     (is_header : h ≡ header r.now)
     (are_own : own ≡ of_directions (residue shares r.now))
-    (are_ahead : ahead ≡ pre_dispatch_of h.present shares r.now)
+    (are_ahead : ahead ≡ pre_dispatch_of shares r.now)
     (is_sum : sum ≡ loop_sum (λ k. (at own k).cents)) where
   abbrev parts : Parts
   parts = record { r = r; header = h; residues = own; pre_dispatch = ahead; loop_sum = sum }

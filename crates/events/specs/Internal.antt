@@ -1,12 +1,13 @@
 -- What a record says of a direction, once its residues are worked out. No promise cites this.
-use Rattle.std.specs.Prelude.{Bool, true, cond, List, ◌≡◌, ℕ, ◌+◌, ◌*◌, ◌≤◌, nat_abs, get_or, replicate}
+use Rattle.std.specs.Prelude.{true, cond, List, Option, Some, None, ◌≡◌, ℕ, ◌+◌, ◌*◌, ◌≤◌, pos, nat_abs, get_or, is_some, unwrap_or, option_map}
+use Rattle.units.specs.declared.Cents.{Cents}
 use Rattle.units.specs.declared.Hundredths.{Hundredths}
-use Rattle.units.specs.Units.{hundredths}
+use Rattle.units.specs.Units.{cents, hundredths}
 use Rattle.rules.specs.declared.Event.{Event}
 use Rattle.rules.specs.declared.Residue.{Residue}
 use Rattle.rules.specs.Interval.{flag_of, next_of}
 use Rattle.rules.specs.Market.{corridor, of_directions}
-use Rattle.rules.specs.Record.{record_number, target, status, blocked, target_sum, pre_dispatch_residue}
+use Rattle.rules.specs.Record.{record_number, target, status, blocked, target_sum, present, pre_dispatch_residue}
 use Rattle.rules.specs.Residue.{no_residue, sum_from, over_lines}
 use Rattle.rules.specs.Tracker.{accepts}
 use Rattle.words.specs.Internal.{largest_i32}
@@ -30,8 +31,12 @@ pub record IsSumBefore (b : List ℕ) (c i : ℕ) (sum : Hundredths) : Type 0 wh
   pub small : nat_abs sum.0 ≤ largest_i32 * lines
 
 -- the residues of the pre-dispatch half-hour, where there is one
-abbrev pub pre_dispatch_of : Bool → List ℕ → List ℕ → List Residue
-pre_dispatch_of present shares b = cond present (of_directions (pre_dispatch_residue shares b)) (replicate 8 no_residue)
+abbrev pub pre_dispatch_of : List ℕ → List ℕ → Option (List Residue)
+pre_dispatch_of shares b = cond (present b) (Some (of_directions (pre_dispatch_residue shares b))) None
+
+-- of these, direction d's
+abbrev pub ahead_of : Option (List Residue) → ℕ → Option Cents
+ahead_of pre_dispatch d = option_map (λ residues. (get_or residues d no_residue).cents) pre_dispatch
 
 -- what a record says of direction d, put together from its parts
 unfoldable pub event_from : Parts → ℕ → Event
@@ -40,7 +45,7 @@ event_from p d = record {
   flag = flag_of p.header.operating p.loop_sum d;
   residue = (get_or p.residues d no_residue).cents;
   leftover = (get_or p.residues d no_residue).leftover;
-  next = next_of (flag_of p.header.operating p.loop_sum d) p.header.n p.header.present (get_or p.pre_dispatch d no_residue).cents;
+  next = next_of (flag_of p.header.operating p.loop_sum d) p.header.n (is_some p.pre_dispatch) (unwrap_or (ahead_of p.pre_dispatch d) (cents (pos 0)));
   review = p.header.review;
   status = status p.r.now d;
   blocked = blocked p.r.now d;

@@ -5,13 +5,13 @@
 ghost use Rattle.std.specs.Prelude.{◌≡◌, ◌<◌};
 ghost use Rattle.rules.specs.Market.{of_directions};
 ghost use Rattle.rules.specs.Record.{target_sum, event_of};
-ghost use Rattle.events.specs.Internal.{Readable, IsTargetOf, pre_dispatch_of, event_from};
+ghost use Rattle.events.specs.Internal.{Readable, IsTargetOf, pre_dispatch_of, ahead_of, event_from};
 
 use record::{Header, Record};
 use rules::{Event, Residue};
 use units::{Cents, Hundredths};
 
-// The sum of the targets of a corridor's physical interconnectors.
+// The sum of the targets of a corridor's physical interconnectors, which it has by number: each number picks a target out of the record.
 fn corridor_target(r: &Record<'_>, c: usize) -> Hundredths
     requires { c < 4 }
     ensures { IsTargetOf r.now c result }
@@ -24,7 +24,8 @@ fn corridor_target(r: &Record<'_>, c: usize) -> Hundredths
     sum
 }
 
-// The target sum of direction d's corridor: an odd direction runs from To to From, and counts it negated.
+// The target sum of direction d's corridor: an odd direction runs from To to From, and counts it negated. Here and below d is a number, 0 to 7, as
+// document 01 calls directions: bytes and arrays stand by it, and a type for it would be turned into its number in each use.
 fn target_sum(r: &Record<'_>, d: usize) -> Hundredths
     requires { d < 8 }
     ensures { result ≡ target_sum r.now d }
@@ -33,15 +34,15 @@ fn target_sum(r: &Record<'_>, d: usize) -> Hundredths
     if d % 2 == 1 { -sum } else { sum }
 }
 
-// The residues of the pre-dispatch half-hour. Where there is none nothing is worked out.
-fn pre_dispatch_residues(shares: [u16; 6], r: &Record<'_>, present: bool) -> [Residue; 8]
+// The residues of the pre-dispatch half-hour, if pre-dispatch is present.
+fn pre_dispatch_residues(shares: [u16; 6], r: &Record<'_>) -> Option<[Residue; 8]>
     requires { Readable shares r.now }
-    ensures { result ≡ pre_dispatch_of present shares r.now }
+    ensures { result ≡ pre_dispatch_of shares r.now }
 {
-    if !present {
-        return [Residue::default(); 8];
+    if !r.header().present {
+        return None;
     }
-    residue::residues(r.pre_dispatch_prices(), shares, r.pre_dispatch_lines())
+    Some(residue::residues(r.pre_dispatch_prices(), shares, r.pre_dispatch_lines()))
 }
 
 // What is worked out once for the eight directions: the record's header, its residues, those of pre-dispatch, and the sum of the loop's.
@@ -50,11 +51,20 @@ struct Parts<'a> {
     r: &'a Record<'a>,
     header: Header,
     residues: [Residue; 8],
-    pre_dispatch: [Residue; 8],
+    pre_dispatch: Option<[Residue; 8]>,
     loop_sum: Cents,
 }
 
 impl Parts<'_> {
+    // The pre-dispatch residue of direction d, if pre-dispatch is present.
+    fn ahead(&self, d: usize) -> Option<Cents>
+        requires { d < 8 }
+        ensures { result ≡ ahead_of self.now.pre_dispatch d }
+    {
+        let residues = self.pre_dispatch?;
+        Some(residues[d].cents)
+    }
+
     // What the record says of direction d.
     #[tactic(auto, unfolding(crate::specs::Internal::event_from))]
     fn event(&self, d: usize) -> Event
@@ -63,14 +73,13 @@ impl Parts<'_> {
     {
         let header = self.header;
         let own = self.residues[d];
-        let ahead = self.pre_dispatch[d];
         let flag = residue::flag(header.operating, self.loop_sum, d);
         Event {
             n: header.n,
             flag,
             residue: own.cents,
             leftover: own.leftover,
-            next: residue::next(flag, header.n, header.present, ahead.cents),
+            next: residue::next(flag, header.n, self.ahead(d)),
             review: header.review,
             status: self.r.status(d),
             blocked: self.r.is_blocked(d),
@@ -78,7 +87,8 @@ impl Parts<'_> {
         }
     }
 
-    // The same of each direction. The numbers are written: with `from_fn` a record takes a fifth more instructions.
+    // The same of each direction. The numbers are written: with `from_fn` a record takes a fifth more instructions, and so more
+    // than in the plain Rust program.
     fn events(&self) -> [Event; 8]
         ensures { result ≡ of_directions (event_from self.now) }
     {
@@ -106,7 +116,7 @@ pub fn events(shares: [u16; 6], r: &Record<'_>) -> [Event; 8]
         r,
         header,
         residues,
-        pre_dispatch: pre_dispatch_residues(shares, r, header.present),
+        pre_dispatch: pre_dispatch_residues(shares, r),
         loop_sum: residue::loop_sum(residues),
     };
     parts.events()

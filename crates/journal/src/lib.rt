@@ -4,17 +4,19 @@
 
 #![tactic(auto)]
 
-ghost use Rattle.std.specs.Prelude.{true, ◌≡◌, ◌+◌, ◌≤◌, length};
+ghost use Rattle.std.specs.Prelude.{true, ◌≡◌, ℕ, ◌+◌, ◌≤◌, List, length};
+ghost use Rattle.std.specs.Iterator.{YieldsFirstRef, item_count};
 ghost use mathlib.Core.List.{flatten};
 ghost use Rattle.tracker.specs.Promise.{record_number, issue};
 ghost use Rattle.words.specs.Buffer.{Puts};
 ghost use Rattle.journal_rules.specs.Journal.{trailer_length, first_number, last_number, follows, in_order, count, distance, first, last, holding, bad_length, bad_trailer, bad_numbers, bad_records, records_of, journal_of};
 ghost use Rattle.journal_rules.specs.Survivors.{survivors};
-ghost use Rattle.journal_rules.specs.Internal.{records_in, last_records, issued_again, Whole};
+ghost use Rattle.journal_rules.specs.Internal.{records_in, last_records, counted_records, issued_next, last_of_each, Whole};
 ghost use Rattle.journal_rules.specs.Promise.{ReadPromise, SurvivorsPromise, WritePromise};
 
 use journal_rules::Contents;
 use rules::{RECORD, Refusal};
+use std::marker::Model;
 
 // The length of a trailer.
 pub const TRAILER: usize = 16;
@@ -23,13 +25,13 @@ pub const TRAILER: usize = 16;
 const ISSUE: usize = 13;
 
 // The most records that a journal holds, the longest preface before them, and the longest journal.
-const MOST_RECORDS: usize = 288;
+pub const MOST_RECORDS: usize = 288;
 
 const LONGEST_PREFACE: usize = 1024;
 
 pub const LONGEST_JOURNAL: usize = 65536;
 
-type Record = [u8; RECORD];
+type RecordBytes = [u8; RECORD];
 
 // What a trailer says: what the journal holds, and how far before the trailer its first record begins.
 #[derive(Clone, Copy)]
@@ -39,19 +41,21 @@ struct Trailer {
 }
 
 // Records end to end, one by one; bytes too few for a record are left out.
-fn as_records(bytes: &[u8]) -> &[Record]
+fn as_records(bytes: &[u8]) -> &[RecordBytes]
     ensures { result.now ≡ records_in bytes.now }
 {
     bytes.as_chunks::<RECORD>().0
 }
 
 // The n of a record, which it starts with.
-fn number_of(bytes: &Record) -> u32
+fn number_of(bytes: &RecordBytes) -> u32
     ensures { result ≡ record_number bytes.now }
 {
     words::u32_at(bytes, 0)
 }
 
+// The n of the first record, and below of the last; 0 where there is none. Each is one match: `first().map_or(0, number_of)` was tried, and the check
+// does not find its proof.
 #[tactic(auto, using(journal_rules::proofs::OneByOne::how_many, journal_rules::proofs::OneByOne::number_in), unfolding(journal_rules::specs::Journal::first_number))]
 fn first_number(records: &[u8]) -> u32
     ensures { result ≡ first_number records.now }
@@ -73,7 +77,7 @@ fn last_number(records: &[u8]) -> u32
 }
 
 // May record b stand after record a: of the same n and a higher issue, or of the next n (N7)? The highest n has no next one.
-fn follows(a: &Record, b: &Record) -> bool
+fn follows(a: &RecordBytes, b: &RecordBytes) -> bool
     ensures { result ≡ follows (record_number a.now) (issue a.now) (record_number b.now) (issue b.now) }
 {
     let n = number_of(a);
@@ -135,12 +139,11 @@ fn bad_numbers(contents: Contents, records: &[u8]) -> bool
     contents.first != first_number(records) || contents.last != last_number(records)
 }
 
-// As many records as counted, those that end at the trailer; none where they and a trailer are longer than the journal. For `listing`, which has
-// read the journal; outside, `records` is offered.
-pub fn counted_records(journal: &[u8], contents: Contents) -> &[u8]
-    ensures { result.now ≡ last_records contents.count journal.now }
+// So many records, those that end at the trailer; none where they and a trailer are longer than the journal.
+fn last_records(journal: &[u8], count: u32) -> &[u8]
+    ensures { result.now ≡ last_records count journal.now }
 {
-    let distance = RECORD * contents.count as usize;
+    let distance = RECORD * count as usize;
     if journal.len() < distance + TRAILER {
         return &[];
     }
@@ -156,41 +159,92 @@ pub fn read(journal: &[u8]) -> Result<Contents, Refusal>
     Refusal::BadLength.when(bad_length(journal))?;
     Refusal::BadTrailer.when(bad_trailer(journal))?;
     let contents = read_trailer(journal).contents;
-    let records = counted_records(journal, contents);
+    let records = last_records(journal, contents.count);
     Refusal::BadNumbers.when(bad_numbers(contents, records))?;
     Refusal::NotInOrder.when(!in_order(records))?;
     Ok(contents)
 }
 
-// The records of a journal, as the part of it that holds them; of length 0 where a read is refused.
-pub fn records(journal: &[u8]) -> &[u8]
-    ensures { result.now ≡ records_of journal.now }
+// The records that a read of the journal counted; none where it was refused. For `listing`, which has read the journal; outside, `records` is
+// offered.
+pub fn counted_records(journal: &[u8], found: Result<Contents, Refusal>) -> &[u8]
+    ensures { result.now ≡ counted_records found journal.now }
 {
-    match read(journal) {
-        Ok(contents) => counted_records(journal, contents),
+    match found {
+        Ok(contents) => last_records(journal, contents.count),
         Err(_) => &[],
     }
 }
 
-// Is record i issued again: has the next one the same n? In records that are in order just the superseded ones are, so that the next record
-// tells, and no other need be looked at. For `listing`, which has read the journal; it asks for nothing.
-#[tactic(auto, using(journal_rules::proofs::OneByOne::how_many, journal_rules::proofs::OneByOne::number_in))]
-pub fn issued_again(records: &[u8], i: usize) -> bool
-    ensures { result ≡ issued_again records.now i }
+// The records of a journal, as the part of it that holds them; of length 0 where a read is refused.
+#[tactic(auto, using(journal_rules::proofs::Accept::counted_records_lem))]
+pub fn records(journal: &[u8]) -> &[u8]
+    ensures { result.now ≡ records_of journal.now }
 {
-    let records = as_records(records);
-    i < records.len().saturating_sub(1) && number_of(&records[i + 1]) == number_of(&records[i])
+    counted_records(journal, read(journal))
 }
 
-// How many bytes the survivors have.
+// Is a record issued again: has the first of those after it the same n? In records that are in order just the superseded ones are, so that the
+// next record tells, and no other need be looked at.
+fn issued_again(bytes: &RecordBytes, others: &[RecordBytes]) -> bool
+    ensures { result ≡ issued_next bytes.now others.now }
+{
+    match others {
+        [] => false,
+        [next, ..] => number_of(next) == number_of(bytes),
+    }
+}
+
+// Of records those that the next one does not supersede, one by one: the survivors, where the records are in order. A clause sees the list of those
+// that are left. For `listing` too, which has read the journal.
+#[derive(Drop)]
+pub struct Surviving<'a> {
+    others: &'a [RecordBytes],
+}
+
+impl<'a> Model for Surviving<'a> {
+    ghost Value = { List (List ℕ) };
+
+    ghost view = { λ s. last_of_each s.others.now };
+}
+
+impl<'a> Surviving<'a> {
+    // For records in any order.
+    #[tactic(auto, using(journal_rules::proofs::OneByOne::last_survive))]
+    pub fn among(records: &'a [u8]) -> Self
+        ensures each { result ≡ last_of_each (records_in records.now) }
+        ensures survivors { in_order records.now ≡ true → result ≡ survivors records.now }
+    {
+        Surviving {
+            others: as_records(records),
+        }
+    }
+}
+
+impl<'a> Iterator for Surviving<'a> {
+    type Item = &'a RecordBytes;
+
+    ghost next_gives = { YieldsFirstRef (λ s. s) };
+
+    ghost remaining = { item_count (λ s. s) };
+
+    fn next(&mut self) -> Option<&'a RecordBytes> {
+        while let [bytes, others @ ..] = self.others {
+            self.others = others;
+            if !issued_again(bytes, others) {
+                return Some(bytes);
+            }
+        }
+        None
+    }
+}
+
+// How many bytes the survivors have. That the records are in order, which the read has shown, is asked here and below alone.
 fn survivors_length(records: &[u8]) -> usize
     requires { in_order records.now ≡ true }
     ensures { result ≡ length (flatten (survivors records.now)) }
 {
-    RECORD
-        * (0..records.len() / RECORD)
-            .filter(|&i| !issued_again(records, i))
-            .count()
+    RECORD * Surviving::among(records).count()
 }
 
 // The survivors, at the start of a buffer that has room for them.
@@ -199,10 +253,7 @@ fn put_survivors(records: &[u8], out: &mut [u8]) -> usize
     ensures { Puts (flatten (survivors records.now)) out.old result out.new }
 {
     let mut n = 0;
-    for (i, bytes) in as_records(records).iter().enumerate() {
-        if issued_again(records, i) {
-            continue;
-        }
+    for bytes in Surviving::among(records) {
         n += words::put_bytes(bytes, &mut out[n..]);
     }
     n
@@ -213,7 +264,7 @@ fn put_survivors(records: &[u8], out: &mut [u8]) -> usize
 pub fn survivors(journal: &[u8], out: &mut [u8]) -> Result<u32, Refusal>
     ensures { SurvivorsPromise journal.now out.old result out.new }
 {
-    let records = counted_records(journal, read(journal)?);
+    let records = last_records(journal, read(journal)?.count);
     Refusal::NoRoom.when(out.len() < survivors_length(records))?;
     let n = put_survivors(records, out);
     Ok((n / RECORD) as u32)

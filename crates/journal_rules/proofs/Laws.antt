@@ -4,7 +4,7 @@
 use mathlib.Core.Path.{◌≡◌, refl, ◌∙◌}
 use mathlib.Core.Bool.{Bool, true, false, not, or-true}
 use mathlib.Core.List.{List, [], ◌∷◌, ◌++◌, map, flatten}
-use mathlib.Core.Option.{Option, none, some}
+use mathlib.Core.Option.{Option, none, some, some_inj}
 use Prim.Native.Nat.{ℕ, ◌+◌, ◌%◌, ◌<◌}
 use borrow.Author.Tests.{lt-ltb}
 use lib.Dec.{ltb, eqb}
@@ -199,12 +199,12 @@ module _ (r : List ℕ) where
   too_many room c = rw (lt-ltb 288 (record_count r) c, or-true (not (eqb (length r % 168) 0)))
 
 -- ---- the records, and the buffer that a write is lent
-refused_by : (cs : List Condition) (k : ℕ) → number_met cs ≡ some k → (why : Refusal) × (judged cs ≡ Err why)
+refused_by : (cs : List Condition) (k : ℕ) → number_met cs ≡ some k → (why : Refusal) × (judged cs ≡ Err why) × (number why ≡ k)
 refused_by cs k e = go (judged cs) (number_met_lem cs ∙ e)
   where
-    go : (o : Outcome) → number_of o ≡ some k → (why : Refusal) × (o ≡ Err why)
+    go : (o : Outcome) → number_of o ≡ some k → (why : Refusal) × (o ≡ Err why) × (number why ≡ k)
     go (Ok done) n = cc
-    go (Err why) n = (why, refl)
+    go (Err why) n = (why, refl, some_inj.0 n)
 
 -- The part of the lent journal that holds them; on a refusal it has length 0.
 module _ (s : List ℕ) where

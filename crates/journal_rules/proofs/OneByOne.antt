@@ -1,11 +1,13 @@
 -- Records one by one are those that stand end to end.
 -- Assumes nothing.
-use Rattle.std.proofs.Common.{◌≡◌, refl, ap, ◌∙◌, ℕ, zero, suc, ◌+◌, ◌*◌, ◌<◌, List, [], length, get_or, take, drop, drop-drop, arith}
+use Rattle.std.proofs.Common.{◌≡◌, refl, ap, ◌∙◌, true, ℕ, zero, suc, ◌+◌, ◌*◌, ◌<◌, add-one, List, [], ◌∷◌, length, get_or, take, drop, drop-drop, arith}
+use borrow.Author.Tests.{lt-ltb, le-ltb}
 use Rattle.std.specs.Simd.{first_chunks}
 use Rattle.tracker.specs.Promise.{record_number, issue}
-use Rattle.journal_rules.specs.Journal.{record_length, record_count, number_at, issue_at}
-use Rattle.journal_rules.specs.Survivors.{record_at}
-use Rattle.journal_rules.specs.Internal.{records_in}
+use Rattle.journal_rules.specs.Journal.{record_length, record_count, number_at, issue_at, in_order}
+use Rattle.journal_rules.specs.Survivors.{record_at, survivors_from, survivors}
+use Rattle.journal_rules.specs.Internal.{records_in, issued_again, issued_next, last_of_each}
+use Rattle.journal_rules.proofs.Order.{next_tells}
 use Rattle.journal_rules.proofs.Survivors.{number_of, issue_of}
 
 chunk_at : (n k : ℕ) (r : List ℕ) (i : ℕ) → i < k → get_or (first_chunks n k r) i [] ≡ take n (drop (n * i) r)
@@ -31,3 +33,27 @@ number_in r i h = ap record_number (record_in r i h) ∙ number_of r i
 
 pub issue_in : (r : List ℕ) (i : ℕ) → i < record_count r → issue (get_or (records_in r) i []) ≡ issue_at r i
 issue_in r i h = ap issue (record_in r i h) ∙ issue_of r i
+
+-- in records in order those that the next one does not supersede are the survivors
+module _ (r : List ℕ) (order : in_order r ≡ true) where
+  -- so many records from record i on
+  abbrev on : ℕ → ℕ → List (List ℕ)
+  on i k = first_chunks record_length k (drop (record_length * i) r)
+
+  next_on : (i k : ℕ) → on i (suc k) ≡ record_at r i ∷ on (suc i) k
+  next_on i k =
+      let e : record_length * i + record_length ≡ record_length * suc i = omega arith in
+      ap (λ (d : List ℕ). record_at r i ∷ first_chunks record_length k d) (drop-drop record_length (record_length * i) r ∙ ap (λ (m : ℕ). drop m r) e)
+
+  issued : (k i : ℕ) → i + suc k ≡ record_count r → issued_next (record_at r i) (on (suc i) k) ≡ issued_again r i
+  issued zero i h = rw (le-ltb (i + 1) (record_count r) (omega arith))
+  issued (suc k) i h = rw (number_of r (suc i), number_of r i, lt-ltb (i + 1) (record_count r) (omega arith), add-one i)
+
+  from : (k i : ℕ) → i + k ≡ record_count r → last_of_each (on i k) ≡ survivors_from r i k
+  unfolding survivors_from
+  from zero i h = refl
+  from (suc k) i h = ap last_of_each (next_on i k) ∙ rw (issued k i h, ← next_tells r order i (omega arith), from k (suc i) (omega arith))
+
+  pub last_survive : last_of_each (records_in r) ≡ survivors r
+  unfolding survivors
+  last_survive = from (record_count r) 0 (omega arith)

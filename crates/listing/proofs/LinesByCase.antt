@@ -4,14 +4,14 @@ use mathlib.Core.Path.{◌≡◌, refl, ap, sym, ◌∙◌}
 use mathlib.Core.Bool.{Bool, true, false, cond}
 use mathlib.Core.List.{List, [], ◌∷◌, ◌++◌, map, flatten}
 use mathlib.Core.Option.{Option}
-use Prim.Native.Nat.{ℕ, ◌+◌, ◌<◌, ◌≤◌}
+use Prim.Native.Nat.{ℕ, ◌<◌, ◌≤◌}
 use native.Mathlib.Omega.{arith}
 use lib.ListN.{length}
 use Rattle.std.specs.Prelude.{Result, Ok, Err}
 use Rattle.journal_rules.specs.declared.Contents.{Contents}
 use Rattle.journal_rules.specs.Journal.{record_count, in_order, read_of, records_of}
-use Rattle.journal_rules.specs.Survivors.{record_at, survivors}
-use Rattle.journal_rules.specs.Internal.{last_records, counted_records, issued_again}
+use Rattle.journal_rules.specs.Survivors.{survivors}
+use Rattle.journal_rules.specs.Internal.{last_records, counted_records}
 use Rattle.journal_rules.proofs.Accept.{counted_records_lem, records_ordered}
 use Rattle.journal_rules.proofs.Survivors as S
 use Rattle.tracker.specs.Promise.{Refusal, number, Row, Answer, Opening, OpenPromise, CallAfter, number_of, worked_from}
@@ -31,37 +31,20 @@ printed (r ∷ rows) = go (listed_of r) (printed rows)
     go true e = ap (λ (l : List ℕ). line_of r ++ l) e
     go false e = e
 
--- the lines of the survivors from record i on, after the records that have passed
-abbrev pub rest : Opening → List ℕ → ℕ → List (List ℕ) → List (List ℕ)
-rest o r i passed = run_lines o passed (S.rest r i)
+-- one record's turn, by its call
+module _ (o : Opening) (passed bs : List (List ℕ)) {b : List ℕ} {a : Answer} (call : CallAfter o passed b a) where
+  abbrev upto : List (List ℕ)
+  upto = passed ++ (b ∷ [])
 
-pub rest_all : (o : Opening) (r : List ℕ) → run_lines o [] (survivors r) ≡ rest o r 0 []
-rest_all o r = ap (run_lines o []) (S.rest_all r)
+  turn : {m : Option ℕ} → number_of a.outcome ≡ m → run_lines o passed (b ∷ bs) ≡ call_lines m (eight_rows (worked_from o upto)) (run_lines o upto bs)
+  unfolding run_lines
+  turn e = rw (sym call.number ∙ e) refl
 
-pub rest_none : (o : Opening) (r : List ℕ) (i : ℕ) (passed : List (List ℕ)) → record_count r ≤ i → rest o r i passed ≡ []
-unfolding run_lines
-rest_none o r i passed h = rw (S.rest_none r i h)
+  pub go_on : a.outcome ≡ Ok tt → run_lines o passed (b ∷ bs) ≡ eight_rows (worked_from o upto) ++ run_lines o upto bs
+  go_on e = turn (ap number_of e)
 
--- one record's turn
-module _ (o : Opening) (r : List ℕ) (order : in_order r ≡ true) (i : ℕ) (h : i < record_count r) (passed : List (List ℕ)) where
-  -- one that is issued again gives no line
-  pub pass_over : issued_again r i ≡ true → rest o r i passed ≡ rest o r (i + 1) passed
-  pass_over e = ap (run_lines o passed) (S.again r order i h e)
-
-  -- and one that is not gives those of its call
-  module _ (survives : issued_again r i ≡ false) {a : Answer} (call : CallAfter o passed (record_at r i) a) where
-    abbrev upto : List (List ℕ)
-    upto = passed ++ (record_at r i ∷ [])
-
-    turn : {m : Option ℕ} → number_of a.outcome ≡ m → rest o r i passed ≡ call_lines m (eight_rows (worked_from o upto)) (rest o r (i + 1) upto)
-    unfolding run_lines
-    turn e = rw (S.not_again r order i h survives, sym call.number ∙ e) refl
-
-    pub go_on : a.outcome ≡ Ok tt → rest o r i passed ≡ eight_rows (worked_from o upto) ++ rest o r (i + 1) upto
-    go_on e = turn (ap number_of e)
-
-    pub go_off : (why : Refusal) → a.outcome ≡ Err why → rest o r i passed ≡ ended_by (number why)
-    go_off why e = turn (ap number_of e)
+  pub go_off : (why : Refusal) → a.outcome ≡ Err why → run_lines o passed (b ∷ bs) ≡ ended_by (number why)
+  go_off why e = turn (ap number_of e)
 
 -- what the records give, by the opening's outcome
 module _ (first : ℕ) (bs : List (List ℕ)) {a : Answer} (p : OpenPromise (opened_at first) a) where

@@ -3,11 +3,11 @@
 
 #![tactic(auto)]
 
-ghost use Rattle.std.specs.Prelude.{true, slice_index_or, ◌≡◌, ℕ, ◌+◌, ◌<◌, ◌≤◌, ◌++◌, length, take, IfOk, OnOk, IfSome};
+ghost use Rattle.std.specs.Prelude.{true, slice_index_or, ◌≡◌, ℕ, ◌+◌, ◌<◌, ◌≤◌, length, take, IfOk, OnOk, IfSome};
 ghost use mathlib.Core.List.{[], flatten, map};
 ghost use Rattle.std.specs.Io.{ReadsAtMost};
 ghost use Rattle.std.specs.Io.KnownBytes.{Appends, Consumes, IsAtEnd};
-ghost use Rattle.words.specs.Buffer.{over, Puts};
+ghost use Rattle.words.specs.Buffer.{over, put_before, Puts};
 ghost use Rattle.text.specs.Ascii.{ascii};
 ghost use Rattle.text.specs.Text.{number_cell};
 ghost use Rattle.tracker.specs.Promise.{Came, RowBounds, number};
@@ -29,9 +29,9 @@ const LONGEST_LINE: usize = 95;
 const HEADER: &[u8; 62] = b"interval,direction,applies,amount,previous,current,next,clamp\n";
 
 // How long the longest listing is, `longest_listing`: a header and 288 intervals of eight lines. A buffer needs no more.
-pub const ROOM: usize = HEADER.len() + 288 * (8 * LONGEST_LINE);
+pub const ROOM: usize = HEADER.len() + journal::MOST_RECORDS * (8 * LONGEST_LINE);
 
-// The directions' names.
+// The directions' names, by the number that document 01 gives each.
 const NAMES: [&str; 8] = [
     "NSW1_QLD1",
     "QLD1_NSW1",
@@ -50,21 +50,21 @@ fn name(d: usize) -> &'static str
     NAMES[d]
 }
 
-// A direction's name, and a comma.
-#[tactic(auto, using(crate::proofs::LineLength::name_parts, std::proofs::lemmas::Grind::common_steps))]
-fn put_name(d: usize, out: &mut FromEnd<LONGEST_LINE>)
-    requires { (d < 8) × (length (name_of d) + length out.old ≤ LONGEST_LINE) }
-    ensures { out.new ≡ name_of d ++ out.old }
+// A direction's name, and a comma. A row has its direction as document 01 has it, by number, here and below.
+#[tactic(auto, using(crate::proofs::LineLength::name_parts, words::proofs::Parts::before))]
+fn put_name(d: usize, out: &mut FromEnd)
+    requires { (d < 8) × (length (name_of d) ≤ length out.old.free) }
+    ensures { out.new ≡ put_before (name_of d) out.old }
 {
     out.put_byte(b',');
     out.put_bytes(name(d).as_bytes());
 }
 
 // amount,previous,current,next
-#[tactic(auto, using(crate::proofs::LineLength::amounts_parts, std::proofs::lemmas::Grind::common_steps))]
-fn amounts(row: &Row, out: &mut FromEnd<LONGEST_LINE>)
-    requires { length (amounts_of row.now) + length out.old ≤ LONGEST_LINE }
-    ensures { out.new ≡ amounts_of row.now ++ out.old }
+#[tactic(auto, using(crate::proofs::LineLength::amounts_parts, words::proofs::Parts::before))]
+fn amounts(row: &Row, out: &mut FromEnd)
+    requires { length (amounts_of row.now) ≤ length out.old.free }
+    ensures { out.new ≡ put_before (amounts_of row.now) out.old }
 {
     text::quantity(row.next, b',', out);
     text::quantity(row.current, b',', out);
@@ -73,10 +73,10 @@ fn amounts(row: &Row, out: &mut FromEnd<LONGEST_LINE>)
 }
 
 // A row as a line, put together from its end, as numbers are.
-#[tactic(auto, using(crate::proofs::LineLength::line_parts, std::proofs::lemmas::Grind::common_steps))]
-fn line_before(row: &Row, out: &mut FromEnd<LONGEST_LINE>)
-    requires { (row.now.direction < 8) × (length (line_of row.now) + length out.old ≤ LONGEST_LINE) }
-    ensures { out.new ≡ line_of row.now ++ out.old }
+#[tactic(auto, using(crate::proofs::LineLength::line_parts, words::proofs::Parts::before))]
+fn line_before(row: &Row, out: &mut FromEnd)
+    requires { (row.now.direction < 8) × (length (line_of row.now) ≤ length out.old.free) }
+    ensures { out.new ≡ put_before (line_of row.now) out.old }
 {
     text::quantity(row.clamp, b'\n', out);
     amounts(row, out);
@@ -86,7 +86,7 @@ fn line_before(row: &Row, out: &mut FromEnd<LONGEST_LINE>)
 }
 
 // A row as a line: it is put together beside the buffer, since its length is known only then.
-#[tactic(auto, using(crate::proofs::LineLength::line_short, std::proofs::lemmas::Grind::common_steps))]
+#[tactic(auto, using(crate::proofs::LineLength::line_short, words::proofs::Parts::before))]
 fn line(row: &Row, out: &mut [u8]) -> usize
     requires { RowBounds row.now × (length (line_of row.now) ≤ length out.old) }
     ensures { Puts (line_of row.now) out.old result out.new }
@@ -126,7 +126,7 @@ fn rows(t: &Tracker, out: &mut [u8]) -> usize
 }
 
 // A refusal's line.
-#[tactic(auto, using(crate::proofs::ListingLength::ended_parts, crate::proofs::ListingLength::refusal_short, words::proofs::Parts::chained, std::proofs::lemmas::Grind::common_steps))]
+#[tactic(auto, using(crate::proofs::ListingLength::ended_parts, crate::proofs::ListingLength::refusal_short, words::proofs::Parts::chained, words::proofs::Parts::before))]
 fn refused(why: Refusal, out: &mut [u8]) -> usize
     requires { length (flatten (ended_by (number why))) ≤ length out.old }
     ensures { Puts (flatten (ended_by (number why))) out.old result out.new }
@@ -139,7 +139,7 @@ fn refused(why: Refusal, out: &mut [u8]) -> usize
 }
 
 // The lines of the survivors among records end to end, each put in its turn to a tracker that is opened at the first n; those of the records
-// before a refusal stay. A record that is issued again is passed over, whatever it holds.
+// before a refusal stay. A superseded record is passed over, whatever it holds.
 fn run(first: u32, records: &[u8], out: &mut [u8]) -> usize
     requires { (in_order records.now ≡ true) × (length (flatten (opened_lines first (survivors records.now))) ≤ length out.old) }
     ensures { Puts (flatten (opened_lines first (survivors records.now))) out.old result out.new }
@@ -150,10 +150,7 @@ fn run(first: u32, records: &[u8], out: &mut [u8]) -> usize
     }
     let mut t = opened.tracker;
     let mut n = 0;
-    for (i, bytes) in records.as_chunks::<RECORD>().0.iter().enumerate() {
-        if journal::issued_again(records, i) {
-            continue;
-        }
+    for bytes in journal::Surviving::among(records) {
         let answer = tracker::interval(t, bytes);
         if let Err(why) = answer.outcome {
             return n + refused(why, &mut out[n..]);
@@ -164,7 +161,8 @@ fn run(first: u32, records: &[u8], out: &mut [u8]) -> usize
     n
 }
 
-// What the records of a journal give that starts at the first n.
+// What the records of a journal give that starts at the first n. That they are in order, which a read shows, is asked here and in `run`, as in two
+// functions of `journal`: a type for such records would be made in one function of each crate and taken apart in the next.
 #[tactic(auto, using(crate::proofs::LinesByCase::no_text, crate::proofs::LinesByCase::some_records, std::proofs::lemmas::Grind::common_steps))]
 fn opened(first: u32, records: &[u8], out: &mut [u8]) -> usize
     requires { (in_order records.now ≡ true) × (length (flatten (record_lines first (survivors records.now))) ≤ length out.old) }
@@ -183,9 +181,10 @@ fn body(journal: &[u8], out: &mut [u8]) -> usize
     requires { length (flatten (body_lines journal.now)) ≤ length out.old }
     ensures { Puts (flatten (body_lines journal.now)) out.old result out.new }
 {
-    match journal::read(journal) {
+    let found = journal::read(journal);
+    match found {
         Ok(contents) => {
-            let records = journal::counted_records(journal, contents);
+            let records = journal::counted_records(journal, found);
             opened(contents.first, records, out)
         }
         Err(why) => refused(why, out),
@@ -205,8 +204,8 @@ fn input_lines(input: &[u8], more: bool, out: &mut [u8]) -> usize
     }
 }
 
-// The whole listing of a program's input: what its buffer holds, and whether more follows. It stands at the start of a buffer that has
-// room for the longest.
+// The whole listing of a program's input: what its buffer holds, and whether more follows (a bool beside the bytes, since those are as they are
+// either way, and too many of them are refused by number like any other fault). It stands at the start of a buffer that has room for the longest.
 pub fn listing(input: &[u8], more: bool, out: &mut [u8]) -> usize
     requires { longest_listing ≤ length out.old }
     ensures prefix_len { IsPrefixLen result out.new }

@@ -28,7 +28,7 @@ pub fn trader(row: Row) -> Option<TraderView>
     ensures { TraderPromise row result }
 {
     if row.amount.is_negative() {
-        return Some(TraderView {
+        Some(TraderView {
             n: row.n,
             direction: row.direction,
             applies: row.applies,
@@ -36,9 +36,10 @@ pub fn trader(row: Row) -> Option<TraderView>
             previous: row.previous,
             current: row.current,
             next: row.next,
-        });
+        })
+    } else {
+        None
     }
-    None
 }
 
 // The control reader.

@@ -100,8 +100,8 @@ impl<'a> TryFrom<&'a [u8]> for Record<'a> {
     }
 }
 
-// What a record says of all directions alike: n, and of the flags that the interval is under review, that the loop is operating, and that
-// pre-dispatch is present.
+// What a record says of all directions alike: n, and the bits of the flags byte, as document 01 names them: the interval is under review, the loop
+// is operating, pre-dispatch is present.
 #[derive(Clone, Copy)]
 pub struct Header {
     pub n: u32,
@@ -125,6 +125,7 @@ fn status_ok(x: u8) -> bool
     x <= 2 || 4 <= x && x <= 6
 }
 
+// Where a method lends the bytes on, it copies the reference to them into a local first: proofs do not cover what is lent straight out of a field.
 impl Record<'_> {
     // The record's n.
     pub fn number(&self) -> u32
@@ -159,7 +160,8 @@ impl Record<'_> {
         Hundredths(self.int(column.first + column.stride * i))
     }
 
-    // The target of physical interconnector i.
+    // The target of physical interconnector i. Here and below i is one of the six as document 01 numbers them: an enum would be turned into its
+    // number in each use.
     pub fn target(&self, i: usize) -> Hundredths
         requires { i < 6 }
         ensures { IsHundredths (target self.now i) result }
@@ -186,7 +188,8 @@ impl Record<'_> {
         }
     }
 
-    // A direction's status: its byte without the blocked mark.
+    // A direction's status: its byte without the blocked mark. Here and below d is the number that document 01 gives a direction, 0 to 7: its byte
+    // stands by it.
     pub fn status(&self, d: usize) -> Status
         requires { d < 8 }
         ensures { result ≡ status self.now d }
@@ -194,6 +197,7 @@ impl Record<'_> {
         match self.bytes[STATUS + d] & 3 {
             0 => Status::Unbound,
             2 => Status::Violated,
+            // 1; and 3, of the bytes 3 and 7, which `status_ok` refuses: the specs give it alike.
             _ => Status::Bound,
         }
     }
@@ -236,7 +240,7 @@ impl Record<'_> {
         !bytes[STATUS..STATUS + 8].iter().all(|x| status_ok(*x))
     }
 
-    // Are the four prices from a byte on in range? The interval and pre-dispatch each have such four.
+    // Are the four prices from a byte on in range? The interval and pre-dispatch each have such four. A number picks one of the regions.
     fn prices_ok(&self, first: usize) -> bool
         requires { first + 16 ≤ RECORD }
         ensures { result ≡ each 4 (region_ok self.now first) }
@@ -253,6 +257,7 @@ impl Record<'_> {
             && LOSS_SPAN.contains(self.hundredths(LOSSES, i))
     }
 
+    // Here and below a number picks one of the physical interconnectors.
     #[tactic(auto, unfolding(rules::specs::Refusal::bad_flow))]
     fn bad_flow(&self) -> bool
         ensures { result ≡ bad_flow self.now }
@@ -275,13 +280,13 @@ impl Record<'_> {
         self.prices_ok(PRE_DISPATCH) && (0..6).all(|i| self.pre_dispatch_line_ok(i))
     }
 
-    // Absent pre-dispatch is all zero: 16 numbers, up to the end of the record.
+    // Absent pre-dispatch is all zero, up to the end of the record.
     #[tactic(auto, unfolding(rules::specs::Refusal::pre_dispatch_zero))]
     fn pre_dispatch_zero(&self) -> bool
         ensures { result ≡ pre_dispatch_zero self.now }
     {
         let bytes = self.bytes;
-        (0..16).all(|i| words::u32_at(bytes, PRE_DISPATCH + 4 * i) == 0)
+        bytes[PRE_DISPATCH..].iter().all(|x| *x == 0)
     }
 
     #[tactic(auto, unfolding(rules::specs::Refusal::bad_pre_dispatch))]
@@ -317,7 +322,9 @@ impl Record<'_> {
         }
     }
 
-    // The prices of the four regions, and the a and b of the six physical interconnectors; below, those of pre-dispatch.
+    // The prices of the four regions, and the a and b of the six physical interconnectors; below, those of pre-dispatch. Each part of a record has
+    // functions of its own: document 01 gives the lines of each their own a and b, and one function for the prices of both would be told the byte at
+    // which they begin, which is known here alone.
     #[tactic(auto, unfolding(rules::specs::Record::prices))]
     pub fn prices(&self) -> [Cents; 4]
         ensures { result ≡ prices self.now }

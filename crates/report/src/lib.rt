@@ -3,11 +3,15 @@
 
 #![tactic(auto)]
 
-ghost use Rattle.std.specs.Prelude.{ℕ, ◌+◌, ◌*◌, ◌<◌, ◌≤◌, ◌^◌, nat_abs, length, IfOk};
-ghost use Rattle.tracker.specs.Promise.{Answer, Row, Came, RowBounds, highest_sum};
+ghost use Rattle.std.specs.Prelude.{ℕ, ◌≡◌, ◌*◌, ◌<◌, ◌≤◌, nat_abs, length, Ok, IfOk};
+ghost use Rattle.tracker.specs.Promise.{Answer, Row, Came, RowBounds, highest_sum, notice_number};
+ghost use Rattle.words.specs.Internal.{IsI32};
+ghost use Rattle.journal_rules.specs.declared.Contents.{Contents};
+ghost use Rattle.journal_rules.specs.Journal.{read_of};
+ghost use Rattle.report.specs.Settings.{edges_in, direction_settings_in, settings_in};
 
 use readers::ControlView;
-use rules::{Answer, DirectionSettings, Period, RECORD, Refusal, Row, Settings, Tracker};
+use rules::{Answer, DirectionSettings, Notice, Period, RECORD, Row, Settings, Tracker};
 use std::alloc::Alloc;
 use std::array::from_fn;
 use std::rt::{Env, Files};
@@ -30,7 +34,8 @@ fn print_bool(rt: &impl Print, flag: bool) -> io::Result<()> {
     print_number(rt, u64::from(flag), b',')
 }
 
-// An amount, a flow or a leftover, and the byte that ends it.
+// An amount, a flow or a leftover, and the byte that ends it. It has a cell of its own, as `print_number` has: one function for both, which is told
+// what fills the cell, would ask of that in a clause over a closure.
 fn print_quantity<Q: Quantity>(rt: &impl Print, z: Q, end: u8) -> io::Result<()>
     requires { nat_abs (Q.whole z) ≤ highest_sum }
 {
@@ -57,7 +62,15 @@ fn print_period(rt: &impl Print, period: Period) -> io::Result<()> {
     }
 }
 
-// A row in one line, as the control reader shows it: every field.
+// No notice is 0.
+fn notice_number(notice: Option<Notice>) -> u8
+    ensures { result ≡ notice_number notice }
+{
+    notice.map_or(0, u8::from)
+}
+
+// A row in one line, as the control reader shows it: every field. What a row call promises of its row, `RowBounds`, is asked for here and below,
+// since a `Row` is document 01's list of fields, and has no bounds of its own.
 pub fn print_row(rt: &impl Print, row: Row) -> io::Result<()>
     requires { RowBounds row }
 {
@@ -77,11 +90,7 @@ pub fn print_row(rt: &impl Print, row: Row) -> io::Result<()>
     print_bool(rt, shown.blocked)?;
     print_bool(rt, shown.flag)?;
     print_quantity(rt, shown.clamp, b',')?;
-    print_number(
-        rt,
-        shown.notice.map_or(0, |notice| u64::from(u8::from(notice))),
-        b',',
-    )?;
+    print_number(rt, u64::from(notice_number(shown.notice)), b',')?;
     print_quantity(rt, shown.leftover, b'\n')
 }
 
@@ -101,23 +110,48 @@ pub fn print_for_trader(rt: &impl Print, row: Row) -> io::Result<()>
     print_quantity(rt, shown.next, b'\n')
 }
 
-pub fn print_refusal(rt: &impl Print, why: Refusal) -> io::Result<()> {
+// Who reads rows: what is printed of a row for such a reader.
+pub trait Reader {
+    fn print(&self, rt: &impl Print, row: Row) -> io::Result<()>
+        requires { RowBounds row };
+}
+
+// The control room's reader.
+pub struct Control;
+
+impl Reader for Control {
+    fn print(&self, rt: &impl Print, row: Row) -> io::Result<()> {
+        print_row(rt, row)
+    }
+}
+
+// The trader's reader.
+pub struct Trader;
+
+impl Reader for Trader {
+    fn print(&self, rt: &impl Print, row: Row) -> io::Result<()> {
+        print_for_trader(rt, row)
+    }
+}
+
+// A refusal, or its number.
+pub fn print_refusal(rt: &impl Print, why: impl Into<u8>) -> io::Result<()> {
+    let number: u8 = why.into();
     rt.write_all(b"refused,")?;
-    print_number(rt, u64::from(u8::from(why)), b'\n')
+    print_number(rt, u64::from(number), b'\n')
 }
 
 // As long as the most records of a journal are.
-const MOST_BYTES: usize = 288 * RECORD;
+const MOST_BYTES: usize = journal::MOST_RECORDS * RECORD;
 
 // All eight rows after each surviving record of a journal (N7), which the second call gives, up to a refusal.
-fn run_survivors<F: Fn(Row) -> io::Result<()>>(
+fn run_survivors(
     rt: &impl Print,
     t: Tracker,
     journal: &[u8],
-    print: F,
+    reader: &impl Reader,
 ) -> io::Result<()>
-    requires came { Came t }
-    requires prints { (row : Row) → RowBounds row → F.pre print row }
+    requires { Came t }
 {
     let mut records = [0u8; MOST_BYTES];
     let count = match journal::survivors(journal, &mut records) {
@@ -131,8 +165,9 @@ fn run_survivors<F: Fn(Row) -> io::Result<()>>(
             return print_refusal(rt, why);
         }
         now = answer.tracker;
+        // A tracker gives a row by its direction's number.
         for d in 0..8 {
-            print(tracker::row(&now, d).row)?;
+            reader.print(rt, tracker::row(&now, d).row)?;
         }
     }
     Ok(())
@@ -147,16 +182,15 @@ pub fn print_header(rt: &impl Print) -> io::Result<()> {
 }
 
 // All eight rows after each interval of a journal, on the tracker that is opened at its first n, or a refusal. The caller says how the tracker
-// is opened, and prints each row as a reader shows it.
-pub fn print_journal<O: Fn(u32) -> Answer, F: Fn(Row) -> io::Result<()>>(
+// is opened at that number, and who reads.
+pub fn print_opened<O: Fn(u32) -> Answer>(
     rt: &impl Print,
     journal: &[u8],
     opened_at: O,
-    print: F,
+    reader: &impl Reader,
 ) -> io::Result<()>
-    requires opens { (first : ℕ) → first < 2 ^ 32 → O.pre opened_at first }
-    requires came { (first : ℕ) (opened : Answer) → first < 2 ^ 32 → O.post opened_at first opened → Came opened.tracker }
-    requires prints { (row : Row) → RowBounds row → F.pre print row }
+    requires opens { (held : Contents) → read_of journal.now ≡ Ok held → O.pre opened_at held.first }
+    requires came { (held : Contents) (opened : Answer) → read_of journal.now ≡ Ok held → O.post opened_at held.first opened → Came opened.tracker }
 {
     let contents = match journal::read(journal) {
         Ok(contents) => contents,
@@ -167,9 +201,14 @@ pub fn print_journal<O: Fn(u32) -> Answer, F: Fn(Row) -> io::Result<()>>(
     }
     let opened = opened_at(contents.first);
     match opened.outcome {
-        Ok(()) => run_survivors(rt, opened.tracker, journal, print),
+        Ok(()) => run_survivors(rt, opened.tracker, journal, reader),
         Err(why) => print_refusal(rt, why),
     }
+}
+
+// The same, opened as clampday opens a journal.
+pub fn print_journal(rt: &impl Print, journal: &[u8], reader: &impl Reader) -> io::Result<()> {
+    print_opened(rt, journal, |first| tracker::open(first, [500; 6]), reader)
 }
 
 // The length of settings in bytes: 44 i32.
@@ -178,13 +217,24 @@ pub const SETTINGS: usize = 176;
 // Number k of settings in bytes.
 fn int_at(bytes: &[u8; SETTINGS], k: usize) -> i64
     requires { k < 44 }
+    ensures { IsI32 bytes.now (4 * k) result }
 {
     words::i32_at(bytes, 4 * k)
 }
 
-// What settings in bytes have for direction d: 32 steps, four for each, stand before the eight offsets.
+// The edges between the four bands of net.
+#[tactic(auto, unfolding(crate::specs::Settings::edges_in))]
+fn edges_in(bytes: &[u8; SETTINGS]) -> [Cents; 3]
+    ensures { result ≡ edges_in bytes.now }
+{
+    from_fn(|edge| Cents(int_at(bytes, 1 + edge)))
+}
+
+// What settings in bytes have for direction d, a number as their words stand by it: 32 steps, four for each, stand before the eight offsets.
+#[tactic(auto, unfolding(crate::specs::Settings::direction_settings_in))]
 fn direction_settings_in(bytes: &[u8; SETTINGS], d: usize) -> DirectionSettings
     requires { d < 8 }
+    ensures { result ≡ direction_settings_in bytes.now d }
 {
     DirectionSettings {
         steps: from_fn(|band| Hundredths(int_at(bytes, 4 + 4 * d + band))),
@@ -193,10 +243,12 @@ fn direction_settings_in(bytes: &[u8; SETTINGS], d: usize) -> DirectionSettings
 }
 
 // Settings as 44 i32: the threshold, three edges, the steps by direction, the offsets.
-pub fn settings_in(bytes: &[u8; SETTINGS]) -> Settings {
+pub fn settings_in(bytes: &[u8; SETTINGS]) -> Settings
+    ensures { result ≡ settings_in bytes.now }
+{
     Settings {
         threshold: Cents(int_at(bytes, 0)),
-        edges: from_fn(|edge| Cents(int_at(bytes, 1 + edge))),
+        edges: edges_in(bytes),
         directions: from_fn(|d| direction_settings_in(bytes, d)),
     }
 }
@@ -209,6 +261,7 @@ pub fn print_argument(rt: &impl Print, name: &str) -> io::Result<()> {
 }
 
 // Runs a case for each two arguments of the program, which name its files. One without a second is run with an empty name, which no file has.
+// Two are taken at a time by hand: `tuples` of the kit's itertools leaves out one without a second.
 pub fn run_cases<R: Env + Alloc, F: Fn(&str, &str) -> io::Result<()>>(
     rt: &R,
     case: F,

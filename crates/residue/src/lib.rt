@@ -3,7 +3,8 @@
 
 #![tactic(auto)]
 
-ghost use Rattle.std.specs.Prelude.{[], ◌≡◌, ℕ, ◌<◌, ◌≤◌, nat_abs, get_or};
+ghost use Rattle.std.specs.Prelude.{[], ◌≡◌, ℕ, ◌<◌, ◌≤◌, pos, nat_abs, get_or, is_some, unwrap_or};
+ghost use Rattle.units.specs.Units.{cents};
 ghost use Rattle.rules.specs.Bounds.{highest_next};
 ghost use Rattle.rules.specs.Residue.{grains_of, rounded, in_cents, no_residue, price, corridor_residue, residue_of};
 ghost use Rattle.rules.specs.Interval.{loop_sum, flag_of, next_of};
@@ -41,6 +42,7 @@ const CORRIDORS: [Corridor; 4] = [
     },
 ];
 
+// A corridor goes by its number, here and below: that of direction d is d / 2, and of a type for it half would be taken again in each use.
 pub fn corridor_at(c: usize) -> Corridor
     requires { c < 4 }
     ensures { IsCorridor c result }
@@ -59,7 +61,7 @@ fn grains(p: Cents, q: Cents, k: u16, l: Line) -> Grains
     requires { LineInRange p q k l }
     ensures { result ≡ grains_of p q k l }
 {
-    let share = k as i64;
+    let share = i64::from(k);
     let flow = 1000 * l.a.0;
     let received = flow - (1000 - share) * l.b.0;
     let sent = flow + share * l.b.0;
@@ -93,7 +95,9 @@ fn in_cents(g: Grains) -> Residue
     }
 }
 
-// Grains and flow are summed over the corridor's lines first, so that the residue is rounded once.
+// Grains and flow are summed over the corridor's lines first, so that the residue is rounded once. A corridor has its lines by number, and each
+// number picks from two arrays: `shares.iter().zip(&lines).skip(at.first).take(at.lines)` is no plainer, and leaves more to prove.
+// Prices, shares and lines go together into this function and `residues` alone.
 fn corridor(prices: [Cents; 4], shares: [u16; 6], lines: [Line; 6], c: usize) -> CorridorResidue
     requires { (c < 4) × InRange prices shares lines }
     ensures { result ≡ corridor_residue prices shares lines c }
@@ -124,7 +128,8 @@ fn along(r: CorridorResidue, reverse: bool) -> Residue
     }
 }
 
-// Each corridor's residue is worked out once, for both its directions. They are written out: with `from_fn` a busy day takes 4 % more instructions.
+// Each corridor's residue is worked out once, for both its directions. They are written out by the corridors' names: `from_fn` is no plainer, since
+// it picks corridor and way by d / 2 and d % 2, and with it a busy day takes 4 % more instructions.
 #[tactic(auto, unfolding(rules::specs::Residue::residue_of))]
 pub fn residues(prices: [Cents; 4], shares: [u16; 6], lines: [Line; 6]) -> [Residue; 8]
     requires { InRange prices shares lines }
@@ -146,7 +151,7 @@ pub fn residues(prices: [Cents; 4], shares: [u16; 6], lines: [Line; 6]) -> [Resi
     ]
 }
 
-// The sum over directions 2 to 7, the loop's.
+// The sum over directions 2 to 7, the loop's. It is a `for`, and no `sum` or `fold`: that each sum so far fits is what the loop's invariant says.
 pub fn loop_sum(residues: [Residue; 8]) -> Cents
     requires { (d : ℕ) → nat_abs (get_or residues d no_residue).cents.0 ≤ highest_next }
     ensures { result ≡ loop_sum (λ d. (get_or residues d no_residue).cents) }
@@ -166,15 +171,14 @@ pub fn flag(operating: bool, sum: Cents, d: usize) -> bool
     d < 2 || !operating || sum.is_negative()
 }
 
-// The estimate for the next half-hour, from the pre-dispatch residue: only the last interval of a half-hour looks ahead, and only where the
-// flag is up and pre-dispatch is there.
+// The estimate for the next half-hour, from the pre-dispatch residue, if there is one: only the last interval of a half-hour looks ahead, and only
+// where the flag is up.
 #[tactic(auto, unfolding(rules::specs::Interval::next_of))]
-pub fn next(flag: bool, n: u32, present: bool, pre_dispatch: Cents) -> Cents
-    ensures { result ≡ next_of flag n present pre_dispatch }
+pub fn next(flag: bool, n: u32, pre_dispatch: Option<Cents>) -> Cents
+    ensures { result ≡ next_of flag n (is_some pre_dispatch) (unwrap_or pre_dispatch (cents (pos 0))) }
 {
-    if flag && n % 6 == 5 && present {
-        pre_dispatch.lower_of_zero()
-    } else {
-        Cents(0)
+    match pre_dispatch {
+        Some(residue) if flag && n % 6 == 5 => residue.lower_of_zero(),
+        _ => Cents(0),
     }
 }

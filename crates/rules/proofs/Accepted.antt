@@ -65,6 +65,7 @@ pub record Sound (awaited : ℕ) (b : List ℕ) : Type 0 where
   pub flows : bad_flow b ≡ false
   pub pre_dispatch : bad_pre_dispatch b ≡ false
 
+-- An accepted record has them all,
 pub accepted_is : (awaited : ℕ) (b : List ℕ) → accepts awaited b ≡ true → Sound awaited b
 unfolding interval_outcome interval_conditions
 accepted_is awaited b e =
@@ -80,6 +81,7 @@ accepted_is awaited b e =
       pre_dispatch = search;
     }
 
+-- and one that has them all is accepted.
 pub accepted_by : (awaited : ℕ) (b : List ℕ) → Sound awaited b → accepts awaited b ≡ true
 unfolding interval_outcome interval_conditions
 accepted_by awaited b s =
@@ -110,6 +112,7 @@ module _ (o : Opening) where
   abbrev conditions : List Condition
   conditions = open_conditions o.first o.shares o.settings
 
+  -- An accepted opening has them all,
   pub opened_is : opens o ≡ true → SoundOpening o
   unfolding open_outcome open_conditions
   opened_is e =
@@ -122,6 +125,7 @@ module _ (o : Opening) where
         settings = record { inside = not-false (inside_spans o.settings) (search); rises = not-false (rising o.settings.edges) (search) };
       }
 
+  -- and one that has them all is accepted.
   pub opened_by : SoundOpening o → opens o ≡ true
   unfolding open_outcome open_conditions
   opened_by s =

@@ -78,9 +78,11 @@ offset_bound (negsuc n) e = absurd (false≢true e)
 offset_bound (pos n) e = passed (pos 0) (pos 100000) (pos n) e
 
 module _ (own : DirectionSettings) (ok : direction_ok own ≡ true) where
+  -- A step is 100,000 at most, either way;
   pub step_size : (band : ℕ) → band < 4 → nat_abs (step_for own.steps band).0 ≤ 100000
   step_size band l = step_bound (step_for own.steps band).0 (each_at (λ band. step_ok (step_for own.steps band)) 4 (both_true (steps_ok own.steps) _ ok).0 band l)
 
+  -- an offset is from 0 to 100,000.
   pub offset_within : Within (pos 0) (pos 100000) own.offset.0
   offset_within = offset_bound own.offset.0 (both_true (steps_ok own.steps) _ ok).1
 

@@ -50,9 +50,11 @@ module _ (o : Opening) (calls : List (List ℕ)) (t : Tracker) (claim : Claim o 
   of_direction : DirectionClaim (settings_of o) (first_of o) d es (awaited_from o calls) its_row
   of_direction = claim.each d (omega arith)
 
+  -- With no cause in the last twelve the next interval does not lie in the row's period;
   pub tracker_not_without_cause : NoCause (settings_of o) es → T (not (lies_in (awaited_from o calls) its_row.period))
   tracker_not_without_cause = not_without_cause of_direction
 
+  -- at the threshold or less, and not under review, it lies in it.
   pub tracker_clamped_at : T (le_z ((sum_since es).0 +ℤ (estimate es).0) (settings_of o).threshold.0) → T (not (under_review es)) → T (lies_in (awaited_from o calls) its_row.period)
   tracker_clamped_at = clamped_at of_direction
 

@@ -19,13 +19,14 @@ module _ (o : Opening) (calls : List (List ℕ)) {d : ℕ} {amount : Cents} (bot
   pub amount_near : nat_abs ((unrounded (shares_of o) d (accepted o calls)).0 -ℤ pos 2400000 *ℤ amount.0) ≤ 1200000 * length (assigned_of (shares_of o) d (span (shares_of o) d (accepted o calls)))
   amount_near = omega (arith, both.near)
 
-  -- and with none of those, so too with no interval in the span, both are 0.
+  -- and with none of those both are 0;
   abbrev BothZero : Type 0
   BothZero = (amount ≡ cents (pos 0)) × (unrounded (shares_of o) d (accepted o calls) ≡ grains (pos 0))
 
   pub none_assigned : assigned_of (shares_of o) d (span (shares_of o) d (accepted o calls)) ≡ [] → BothZero
   none_assigned e = both.none e
 
+  -- so too with no interval in the span.
   pub none_in_span : span (shares_of o) d (accepted o calls) ≡ [] → BothZero
   unfolding assigned_of
   none_in_span e = none_assigned (ap (assigned_of (shares_of o) d) e)

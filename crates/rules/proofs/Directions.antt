@@ -1,13 +1,12 @@
--- A value for each of the eight directions: what stands at a direction, and a loop that makes them one after the other.
+-- A value for each of the eight directions: what stands at a direction, and that eight values are told by that.
 -- Assumes nothing.
 use mathlib.Core.Path.{◌≡◌, refl, sym, ◌∙◌}
 use mathlib.Core.List.{List, [], ◌∷◌}
-use Prim.Native.Nat.{ℕ, zero, suc, ◌+◌, ◌≤◌, ◌<◌}
+use Prim.Native.Nat.{ℕ, zero, suc, ◌+◌, ◌<◌}
 use native.Mathlib.Nat.{add-zero, zero-add, add-suc, suc-add}
 use native.Mathlib.Omega.{arith}
-use borrow.Author.Count.{below_more}
-use lib.ListN.{length, get_or, set, length-set}
-use lib.Seq.{get_or-set_same, get_or-set_other, ext_get_or}
+use lib.ListN.{length, get_or}
+use lib.Seq.{ext_get_or}
 use Rattle.rules.specs.Market.{of_directions}
 
 module _ {A : Type 0} (f : ℕ → A) (default : A) where
@@ -27,27 +26,6 @@ module _ {A : Type 0} (f : ℕ → A) (default : A) where
   -- Eight values are told by what stands at each direction.
   pub are_directions : (xs : List A) → length xs ≡ 8 → ((d : ℕ) → d < 8 → get_or xs d default ≡ f d) → xs ≡ of_directions f
   are_directions xs eight each = ext_get_or default xs (of_directions f) eight (λ d h. each d (omega arith) ∙ sym (at_direction d (omega arith)))
-
-  -- What a loop over the directions keeps of a list: those before d are f's, the others still the old ones.
-  pub record MadeBefore (d : ℕ) (old xs : List A) : Type 0 where
-    pub eight : length xs ≡ 8
-    pub made : (k : ℕ) → k < d → get_or xs k default ≡ f k
-    pub others : (k : ℕ) → d ≤ k → get_or xs k default ≡ get_or old k default
-
-  pub none_made : (old : List A) → length old ≡ 8 → MadeBefore 0 old old
-  none_made old eight = record { eight = eight; made = λ k h. absurd (omega arith); others = λ k h. refl }
-
-  pub one_more : {d : ℕ} {old xs : List A} → MadeBefore d old xs → d < 8 → (y : A) → y ≡ f d → MadeBefore (d + 1) old (set xs d y)
-  one_more {d} {old} {xs} m h y e = record {
-    eight = length-set xs d y ∙ m.eight;
-    made = below_more (λ k. get_or (set xs d y) k default ≡ f k) d
-        (λ k l. get_or-set_other xs d k y default (λ q. omega arith) ∙ m.made k l)
-        (get_or-set_same xs d y default (omega (arith, m.eight)) ∙ e);
-    others = λ k l. get_or-set_other xs d k y default (λ q. omega arith) ∙ m.others k (omega arith);
-  }
-
-  pub all_made : {d : ℕ} {old xs : List A} → MadeBefore d old xs → d ≡ 8 → xs ≡ of_directions f
-  all_made {d} {old} {xs} m e = are_directions xs m.eight (λ k h. m.made k (omega arith))
 
 -- What two functions agree on, they make of the eight alike.
 pub same_directions : {A : Type 0} (f g : ℕ → A) (default : A) → ((d : ℕ) → d < 8 → f d ≡ g d) → of_directions f ≡ of_directions g

@@ -53,7 +53,7 @@ module _ (f : ℕ → Bool) where
       go true k = absurd (false≢true (sym e ∙ each_at n k i h))
       go false k = k
 
-  -- A loop that tests one number after the other: before the first, at the next, at the end.
+  -- A loop that tests one number after the other: before the first, at the next, at the end. For callers, by tracker/proofs/Promise.
   pub each_none : each 0 f ≡ true
   unfolding each
   each_none = refl

@@ -9,6 +9,7 @@ use Rattle.rules.specs.Refusal.{each, bad_flags, bad_status, bad_price, bad_flow
 use Rattle.rules.specs.Tracker.{open_of, step_all, advanced, interval_of, row_of, row_answer, run}
 use Rattle.rules.specs.Figures.{Figures}
 
+-- Document 01's twelve, and those of N4, N8 and N2.
 pub figures : Figures
 unfolding residue_of clears_at flag_of next_of step_of in_half_hour latest_half_hour any_negative clearing since_clearing sum_negative state_after u32_at i32_at prices lines pre_dispatch_prices pre_dispatch_lines event_of each bad_flags bad_status bad_price bad_flow pre_dispatch_zero pre_dispatch_inside bad_pre_dispatch interval_conditions interval_outcome inside_spans rising open_conditions open_outcome row_conditions row_outcome open_of step_all advanced interval_of row_of row_answer run
 figures = record {

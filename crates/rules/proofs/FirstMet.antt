@@ -1,5 +1,5 @@
 -- The first condition met, as listed, gives the number; without one the call is accepted: how a function shows it that tests the conditions in
--- their order and returns at the first that is met.
+-- their order and returns at the first that is met. For callers, by tracker/proofs/Promise.
 -- Assumes nothing.
 use mathlib.Core.Path.{◌≡◌, refl, ◌∙◌}
 use mathlib.Core.Bool.{true, false, false≢true}

@@ -35,6 +35,7 @@ amount_at k =
     let lossy = set (set the_record 64 176) 65 4 in
     (row_answer (run (opening 0 (set halves 2 k)) (lossy ∷ [])) 2).row.amount
 
+-- The share counts to the thousandth: at 251 the amount is 15 cents lower than at 250.
 pub amount_by_share : (amount_at 250 ≡ cents (minus 373750)) × (amount_at 251 ≡ cents (minus 373765))
 unfolding residue_of clears_at flag_of next_of step_of u32_at i32_at prices lines pre_dispatch_prices pre_dispatch_lines event_of each bad_flags bad_status bad_price bad_flow pre_dispatch_zero pre_dispatch_inside bad_pre_dispatch interval_conditions interval_outcome inside_spans rising open_conditions open_outcome row_conditions row_outcome open_of step_all advanced interval_of row_of row_answer run
 amount_by_share = (refl, refl)
@@ -73,10 +74,11 @@ module _ (o : Opening) where
   unfolding open_of
   refused_opening_lem e = rw e refl
 
-  -- The calls after it keep its shares, and what they say of a direction follows from those.
+  -- The calls after it keep its shares,
   pub shares_kept : opens o ≡ true → (calls : List (List ℕ)) → (run o calls).shares ≡ o.shares
   shares_kept e calls = rw ((replays o calls).shares, e)
 
+  -- and what they say of a direction follows from those.
   pub shares_used : opens o ≡ true → (d : ℕ) (bs : List (List ℕ)) → history o d bs ≡ map (event_of o.shares d) bs
   unfolding history
   shares_used e d bs = rw e refl
@@ -114,6 +116,7 @@ fresh_row first d = row_of_zeros first d true (hundredths (pos 2000000))
 abbrev answered : Row → RowAnswer
 answered r = record { outcome = Ok tt; row = r }
 
+-- The row that is worked out from no accepted interval is fresh, whatever the settings.
 pub worked_fresh : (settings : Settings) (first d : ℕ) → worked_row settings first d [] ≡ fresh_row first d
 unfolding worked_row
 worked_fresh settings first d = refl

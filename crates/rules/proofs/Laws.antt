@@ -43,6 +43,7 @@ half_hours n = (omega arith, omega arith)
 abbrev flags_in : ℕ → List Bool
 flags_in x = let b = replicate 4 0 ++ (x ∷ []) in reviewed b ∷ operating b ∷ present b ∷ []
 
+-- Each bit alone is its own flag alone.
 pub flag_bits : map flags_in (1 ∷ 2 ∷ 4 ∷ []) ≡ (true ∷ false ∷ false ∷ []) ∷ (false ∷ true ∷ false ∷ []) ∷ (false ∷ false ∷ true ∷ []) ∷ []
 flag_bits = refl
 
@@ -50,6 +51,7 @@ flag_bits = refl
 abbrev states_in : ℕ → List (Status × Bool)
 states_in x = of_directions (λ d. let b = replicate (5 + d) 0 ++ (x ∷ []) in (status b d, blocked b d))
 
+-- The six, in each of the eight directions.
 pub status_bits : map states_in (0 ∷ 1 ∷ 2 ∷ 4 ∷ 5 ∷ 6 ∷ [])
     ≡ map (replicate 8) ((Unbound, false) ∷ (Bound, false) ∷ (Violated, false) ∷ (Unbound, true) ∷ (Bound, true) ∷ (Violated, true) ∷ [])
 status_bits = refl
@@ -73,6 +75,7 @@ module _ (shares b : List ℕ) where
   abbrev pub loop_residues : Cents
   loop_residues = r 2 +ᶜ r 3 +ᶜ r 4 +ᶜ r 5 +ᶜ r 6 +ᶜ r 7
 
+  -- Of a record, directions 0 and 1 have flag 1, always.
   pub record_flag_outside : (d : ℕ) → d < 2 → flag shares b d ≡ true
   record_flag_outside = flag_outside (operating b) loop_residues
 
@@ -115,12 +118,13 @@ module _ (before : Bool) (after : Period) (net : Cents) (counts : Counts) (was :
       go true = refl
       go false = refl
 
--- The -100,000 that ends a suspension is no setting. Whatever the settings, net below it ends one; net at it or above ends none, in a period held
--- before and still.
+-- The -100,000 that ends a suspension is no setting. Whatever the settings,
 module _ (set : Settings) (e : Event) (s : Direction) where
+  -- net below it ends one;
   pub suspension_ends_lem : lt_z (sums_after e s).net.0 (minus 100000) ≡ true → suspended_after set e s ≡ false
   suspension_ends_lem = low_ends (held s.period) (managed_after set e s).period (sums_after e s).net (counts_after set e s) s.suspended
 
+  -- net at it or above ends none, in a period held before and still.
   pub suspension_stands : lt_z (sums_after e s).net.0 (minus 100000) ≡ false → (held (managed_after set e s).period && held s.period) ≡ true → s.suspended ≡ true → suspended_after set e s ≡ true
   suspension_stands = high_stands (held s.period) (managed_after set e s).period (sums_after e s).net (counts_after set e s) s.suspended
 
@@ -158,18 +162,20 @@ next_law flag n present pre_dispatch = record {
     go true = lower_of_zero_low pre_dispatch.0
     go false = record { le = tt }
 
+-- So it is of a record's next, in each direction.
 pub record_next_law : (shares b : List ℕ) (d : ℕ)
     → NextLaw (flag shares b d) (record_number b) (present b) (residue_of (pre_dispatch_prices b) shares (pre_dispatch_lines b) d).cents (next shares b d)
 record_next_law shares b d = next_law (flag shares b d) (record_number b) (present b) (pre_dispatch_residue shares b d).cents
 
 -- ---- the residue
--- k is the From loss share: at 1000 the From price bears all losses, at 0 the To price does.
+-- k is the From loss share: at 1000 the From price bears all losses,
 pub losses_on_from : (P Q : Cents) (l : Line) → grains_of P Q 1000 l ≡ grains (P.0 *ℤ (pos 1000 *ℤ l.a.0) -ℤ Q.0 *ℤ (pos 1000 *ℤ l.a.0 +ℤ pos 1000 *ℤ l.b.0))
 losses_on_from P Q l =
     let flow = pos 1000 *ℤ l.a.0 in
     let sent = Q.0 *ℤ (flow +ℤ pos 1000 *ℤ l.b.0) in
     ap (λ (z : ℤ). grains (P.0 *ℤ (flow -ℤ z) -ℤ sent)) (zero-*ℤ l.b.0) ∙ ap (λ (z : ℤ). grains (P.0 *ℤ z -ℤ sent)) (+ℤ_idr flow)
 
+-- at 0 the To price does.
 pub losses_on_to : (P Q : Cents) (l : Line) → grains_of P Q 0 l ≡ grains (P.0 *ℤ (pos 1000 *ℤ l.a.0 -ℤ pos 1000 *ℤ l.b.0) -ℤ Q.0 *ℤ (pos 1000 *ℤ l.a.0))
 losses_on_to P Q l = simp (zero-*ℤ, +ℤ_idr)
 

@@ -1,5 +1,5 @@
--- The part of a cent left over (N8), of a corridor, a record and a row: cents and leftovers of both directions make the grains, a direction's leftover is
--- half a cent at most, and no rule reads it.
+-- The part of a cent left over (N8), of a corridor, a record and a row: cents and leftovers of both directions make the grains, a direction's
+-- leftover is half a cent at most, and no rule reads it.
 -- Assumes nothing.
 use mathlib.Core.Path.{◌≡◌, refl, ap, ap₂, ◌∙◌}
 use mathlib.Core.Bool.{Bool, true, false}

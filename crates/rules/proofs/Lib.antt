@@ -14,6 +14,7 @@ pub mod Leftover
 pub mod ResidueBounds
 pub mod SumInvariant
 pub mod PeriodInvariant
+pub mod RowNotice
 pub mod Consecutive
 pub mod OneDirection
 pub mod Rounding

@@ -21,11 +21,13 @@ module _ (o : Opening) (calls : List (List ℕ)) (b : List ℕ) where
   unfolding accepted
   accepted_on = foldl-append (accept_call o) [] calls (b ∷ [])
 
+  -- Refused, it adds no record.
   pub refused_longer : {k : Refusal} → judged (interval_conditions (awaited_from o calls) b) ≡ Err k → accepted o longer ≡ accepted o calls
   unfolding accept_call interval_outcome
   refused_longer e = accepted_on ∙ rw e
 
   module _ (ok : judged (interval_conditions (awaited_from o calls) b) ≡ Ok tt) where
+    -- Accepted, it adds its own in front,
     pub accepted_longer : accepted o longer ≡ b ∷ accepted o calls
     unfolding accept_call interval_outcome
     accepted_longer = accepted_on ∙ rw ok
@@ -34,9 +36,11 @@ module _ (o : Opening) (calls : List (List ℕ)) (b : List ℕ) where
     unfolding interval_outcome
     in_turn = (accepted_is (awaited_from o calls) b (ap is_accepted ok)).in_turn
 
+    -- the number awaited next is one higher,
     pub awaits_one_more : awaited_from o longer ≡ suc (awaited_from o calls)
     awaits_one_more = ap (awaited_after o) accepted_longer ∙ ap suc in_turn
 
+    -- and each row shows the number that was awaited.
     pub shows_awaited : (d : ℕ) → (worked_from o longer d).n ≡ awaited_from o calls
     unfolding history worked_row event_of
     shows_awaited d = ap (λ (bs : List (List ℕ)). (worked_row (settings_of o) (first_of o) d (history o d bs)).n) accepted_longer ∙ in_turn

@@ -36,6 +36,7 @@ faults = (3, 1) ∷ (0, 1) ∷ (14, 1) ∷ (5, 3) ∷ (19, 127) ∷ (35, 127) �
 abbrev mended_in_turn : List (List ℕ)
 mended_in_turn = (with_faults faults ++ (0 ∷ [])) ∷ map (λ k. with_faults (drop k faults)) (0 ∷ 1 ∷ 2 ∷ 3 ∷ 4 ∷ 5 ∷ 6 ∷ 7 ∷ [])
 
+-- They give 1 to 8, and mended the record is accepted.
 pub one_to_eight : map (interval_outcome 0) mended_in_turn
     ≡ Err NotARecord ∷ Err NumberTooHigh ∷ Err NotAwaited ∷ Err BadFlags ∷ Err BadStatus ∷ Err BadPrice ∷ Err BadFlow ∷ Err BadPreDispatch ∷ Ok tt ∷ []
 unfolding u32_at i32_at each bad_flags bad_status bad_price bad_flow pre_dispatch_zero pre_dispatch_inside bad_pre_dispatch interval_conditions interval_outcome
@@ -45,6 +46,7 @@ one_to_eight = refl
 abbrev opens_at : ℕ → ℕ → Outcome
 opens_at first share = (open_of (opening first (set halves 5 share))).outcome
 
+-- They give 9, then 10; with none it is accepted.
 pub nine_then_ten : opens_at 1051200 1001 ∷ opens_at 1 1001 ∷ opens_at 0 1001 ∷ opens_at 0 1000 ∷ [] ≡ Err BadFirst ∷ Err BadFirst ∷ Err BadShare ∷ Ok tt ∷ []
 unfolding each inside_spans rising open_conditions open_outcome open_of
 nine_then_ten = refl
@@ -53,22 +55,26 @@ nine_then_ten = refl
 abbrev pub numbers : List Condition → List ℕ
 numbers conditions = map (λ c. number c.refusal) conditions
 
+-- An interval call has 1 to 8,
 pub interval_numbers : (awaited : ℕ) (b : List ℕ) → numbers (interval_conditions awaited b) ≡ 1 ∷ 2 ∷ 3 ∷ 4 ∷ 5 ∷ 6 ∷ 7 ∷ 8 ∷ []
 unfolding interval_conditions
 interval_numbers awaited b = refl
 
+-- an opening 9, 10, 19 and 20,
 pub open_numbers : (first : ℕ) (shares : List ℕ) (settings : Settings) → numbers (open_conditions first shares settings) ≡ 9 ∷ 10 ∷ 19 ∷ 20 ∷ []
 unfolding open_conditions
 open_numbers first shares settings = refl
 
+-- a row call 17.
 pub row_numbers : (d : ℕ) → numbers (row_conditions d) ≡ 17 ∷ []
 unfolding row_conditions
 row_numbers d = refl
 
--- A refusal returns its number; an acceptance has none.
+-- A refusal returns its number;
 pub number_of_refusal : (A : Type 0) (k : Refusal) → number_of {A = A} (Err k) ≡ some (number k)
 number_of_refusal A k = refl
 
+-- an acceptance has none.
 pub number_of_acceptance : {A : Type 0} (given : A) → number_of (Ok given) ≡ none
 number_of_acceptance given = refl
 
@@ -77,6 +83,7 @@ number_of_acceptance given = refl
 abbrev answers_after : List (List ℕ) → List Outcome
 answers_after calls = map (λ n. (interval_of (run (opening 0 halves) calls) (with_faults ((0, n) ∷ []))).outcome) (0 ∷ 1 ∷ 2 ∷ [])
 
+-- Just opened at 0, it takes 0 alone; after one record 1 alone.
 pub awaited_in_turn : (answers_after [] ≡ Ok tt ∷ Err NotAwaited ∷ Err NotAwaited ∷ []) × (answers_after (the_record ∷ []) ≡ Err NotAwaited ∷ Ok tt ∷ Err NotAwaited ∷ [])
 unfolding u32_at i32_at each bad_flags bad_status bad_price bad_flow pre_dispatch_zero pre_dispatch_inside bad_pre_dispatch interval_conditions interval_outcome inside_spans rising open_conditions open_outcome open_of advanced interval_of run
 awaited_in_turn = (refl, refl)
@@ -100,10 +107,12 @@ zero_bytes_lem = refl
 abbrev status_is : ℕ → List Outcome
 status_is x = of_directions (λ d. interval_outcome 0 (with_faults ((5 + d, x) ∷ (19, 127) ∷ [])))
 
+-- 3, 7 and 8 are refused with 5,
 pub status_refused : (status_is 3 ≡ replicate 8 (Err BadStatus)) × (status_is 7 ≡ replicate 8 (Err BadStatus)) × (status_is 8 ≡ replicate 8 (Err BadStatus))
 unfolding u32_at i32_at each bad_flags bad_status bad_price interval_conditions interval_outcome
 status_refused = (refl, refl, refl)
 
+-- the six are not.
 pub status_taken : map status_is (0 ∷ 1 ∷ 2 ∷ 4 ∷ 5 ∷ 6 ∷ []) ≡ replicate 6 (replicate 8 (Err BadPrice))
 unfolding u32_at i32_at each bad_flags bad_status bad_price interval_conditions interval_outcome
 status_taken = refl
@@ -112,15 +121,17 @@ status_taken = refl
 abbrev share_is : ℕ → List Outcome
 share_is k = map (λ i. open_outcome 0 (set halves i k) document01) (0 ∷ 1 ∷ 2 ∷ 3 ∷ 4 ∷ 5 ∷ [])
 
+-- 1000 is accepted, 1001 is not.
 pub above_1000 : (share_is 1000 ≡ replicate 6 (Ok tt)) × (share_is 1001 ≡ replicate 6 (Err BadShare))
 unfolding each inside_spans rising open_conditions open_outcome
 above_1000 = (refl, refl)
 
--- Number 17, direction above 7: the row is all zeros, period none.
+-- Number 17, direction above 7;
 pub above_seven : (row_outcome 7 ≡ Ok tt) × (row_outcome 8 ≡ Err NoDirection)
 unfolding row_conditions row_outcome
 above_seven = (refl, refl)
 
+-- the row is all zeros, period none.
 pub beside_seventeen : (t : Tracker) (d : ℕ) → 7 < d → row_answer t d ≡ record { outcome = Err NoDirection; row = row_of_zeros 0 0 false (hundredths (pos 0)) }
 unfolding row_conditions row_outcome row_answer
 beside_seventeen t d above = rw (lt-ltb 7 d above) refl

@@ -47,6 +47,7 @@ settings_are values = open_outcome 0 halves (of_values values)
 abbrev opens_with : ℕ → ℕ → ℤ → ℤ → Outcome
 opens_with first share offset edge = (open_of (opening_with first (set halves 5 share) (of_values (set (set midway 43 offset) 2 edge)))).outcome
 
+-- They give 9, 10, 19 and 20; with none it is accepted.
 pub nine_to_twenty :
     opens_with 1 1001 (minus 1) (pos 1) ∷ opens_with 0 1001 (minus 1) (pos 1) ∷ opens_with 0 1000 (minus 1) (pos 1) ∷ opens_with 0 1000 (pos 0) (pos 1) ∷ opens_with 0 1000 (pos 0) (pos 0) ∷ []
     ≡ Err BadFirst ∷ Err BadShare ∷ Err OutsideSpan ∷ Err NotRising ∷ Ok tt ∷ []
@@ -58,6 +59,7 @@ nine_to_twenty = refl
 abbrev each_value_is : ℤ → List Outcome
 each_value_is z = from (λ k. settings_are (set midway k z)) (Ok tt) 0 44
 
+-- All of them are refused with 19.
 pub each_of_44 : (each_value_is (pos 100000001) ≡ replicate 44 (Err OutsideSpan)) × (each_value_is (minus 1000000001) ≡ replicate 44 (Err OutsideSpan))
 unfolding each inside_spans rising open_conditions open_outcome
 each_of_44 = (refl, refl)
@@ -69,19 +71,22 @@ span_is k below lowest highest above = map (λ z. settings_are (set midway k z))
 abbrev ends : List Outcome
 ends = Err OutsideSpan ∷ Ok tt ∷ Ok tt ∷ Err OutsideSpan ∷ []
 
+-- The threshold's span,
 pub threshold_span : span_is 0 (minus 1000000001) (minus 1000000000) (minus 1) (pos 0) ≡ ends
 unfolding each inside_spans rising open_conditions open_outcome
 threshold_span = refl
 
--- (An edge at the upper end is the last of the three, at the lower end the first.)
+-- that of an edge (at the upper end the last of the three, at the lower end the first),
 pub edge_span : map settings_are (with_edges (minus 100000001) (pos 0) (pos 1) ∷ with_edges (minus 100000000) (pos 0) (pos 1) ∷ with_edges (minus 1) (pos 0) (pos 100000000) ∷ with_edges (minus 1) (pos 0) (pos 100000001) ∷ []) ≡ ends
 unfolding each inside_spans rising open_conditions open_outcome
 edge_span = refl
 
+-- of a step,
 pub step_span : span_is 4 (minus 100001) (minus 100000) (pos 100000) (pos 100001) ≡ ends
 unfolding each inside_spans rising open_conditions open_outcome
 step_span = refl
 
+-- and of an offset.
 pub offset_span : span_is 36 (minus 1) (pos 0) (pos 100000) (pos 100001) ≡ ends
 unfolding each inside_spans rising open_conditions open_outcome
 offset_span = refl

@@ -132,7 +132,7 @@ module _ (i : ℕ) (b : List ℕ) where
   outcome_same awaited =
       rw (length-set b 13 i, number_same, flags_judged, status_judged, price_judged, flow_judged, pre_dispatch_judged)
 
-  -- the call itself
+  -- The call itself: whatever the issue, the same answer.
   pub issue_unread : (t : Tracker) → interval_of t (under_issue i b) ≡ interval_of t b
   unfolding interval_of advanced step_all
   issue_unread t =

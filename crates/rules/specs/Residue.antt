@@ -55,7 +55,8 @@ sum_from first (suc n) f = sum_from first n f +ℤ f (first + n)
 abbrev pub over_lines : ℕ → (ℕ → ℤ) → ℤ
 over_lines c f = sum_from (corridor c).first (corridor c).lines f
 
--- Prices by region, in the order of their numbers; a and b, and the shares, by physical interconnector: the same for an interval and for a pre-dispatch half-hour.
+-- Prices by region, in the order of their numbers; a and b, and the shares, by physical interconnector: the same for an interval and for a
+-- pre-dispatch half-hour.
 module _ (prices : List Cents) (shares : List ℕ) (lines : List Line) where
   abbrev pub price : Region → Cents
   price region = get_or prices (region_number region) (cents (pos 0))

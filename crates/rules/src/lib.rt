@@ -14,7 +14,7 @@ pub const HIGHEST_NUMBER: u32 = 1_051_199;
 // The length of a record in bytes.
 pub const RECORD: usize = 168;
 
-// A clamp that limits nothing: document 01's "swamped".
+// A clamp that limits nothing: document 01's "swamped", of which it gives the number.
 pub const SWAMPED: Hundredths = Hundredths(2_000_000);
 
 // The regions, in the order of their prices.
@@ -86,7 +86,8 @@ pub struct Sums {
     pub net: Cents,
 }
 
-// A management period: none, or first, last and whether extended.
+// A management period: none, or first, last and whether extended. It is an enum of its own, and no `Option` of a struct, since document 01 names the
+// form: "enum None or Held(first, last, extended) held in each direction's state struct".
 #[derive(Clone, Copy, Default)]
 pub enum Period {
     #[default]
@@ -234,14 +235,16 @@ impl From<Refusal> for u8 {
     }
 }
 
-// The answer of an opening and of an interval call: how it ended, and beside that the tracker to go on with, which document 01 gives on a refusal too.
+// The answer of an opening and of an interval call: how it ended, and beside that the tracker to go on with. It is a struct, and no `Result` that
+// holds the tracker, since document 01 gives one on a refusal too: "A refusal returns only its number, beside a tracker and buffers as they were".
 #[derive(Clone, Copy)]
 pub struct Answer {
     pub outcome: Result<(), Refusal>,
     pub tracker: Tracker,
 }
 
-// The answer of a row call: on a refusal too a row stands beside the outcome, all zeros.
+// The answer of a row call: how it ended, and beside that the row. It is a struct, and no `Result` that holds the row, since document 01 gives one on
+// a refusal too: "17 direction above 7; the row is all zeros, period none".
 #[derive(Clone, Copy)]
 pub struct RowAnswer {
     pub outcome: Result<(), Refusal>,

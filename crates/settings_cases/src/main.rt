@@ -4,7 +4,7 @@
 #![tactic(auto)]
 
 use journal::LONGEST_JOURNAL;
-use report::SETTINGS;
+use report::{Control, SETTINGS};
 use std::io;
 use std::rt::Files;
 
@@ -17,11 +17,11 @@ fn run_case<R: Files + Print>(rt: &R, beside: &str, name: &str) -> io::Result<()
     let mut input = [0u8; LONGEST_JOURNAL];
     let journal = report::read_argument(rt, name, &mut input)?;
     report::print_header(rt)?;
-    report::print_journal(
+    report::print_opened(
         rt,
         journal,
         |first| tracker::open_with_settings(first, [500; 6], settings),
-        |row| report::print_row(rt, row),
+        &Control,
     )
 }
 

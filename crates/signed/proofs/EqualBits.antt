@@ -11,11 +11,11 @@ use mir.ValLaws.{to_z-of_z}
 use Rattle.signed.specs.Range.{eq_z}
 use Rattle.signed.proofs.NatParts.{eq_z_yes, eq_z_no, eq_is, eq_by}
 
--- equal bits: equal numbers
+-- Two numbers that fit are equal if their bits are.
 pub bits_eq : {w : Width} {a b : ℤ} → SFits w a → SFits w b → of_z w a ≡ of_z w b → a ≡ b
 bits_eq {w} {a} {b} f g e = sym (to_z-of_z w a f) ∙ ap (to_z w) e ∙ to_z-of_z w b g
 
--- the code's `a == b` is the definition's test
+-- So the code's `a == b` is the definition's test.
 pub eqb_bits : {w : Width} {a b : ℤ} → SFits w a → SFits w b → eqb (of_z w a) (of_z w b) ≡ eq_z a b
 eqb_bits {w} {a} {b} f g = go (eqb (of_z w a) (of_z w b)) refl
   where

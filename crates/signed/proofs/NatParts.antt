@@ -1,5 +1,6 @@
 -- A signed number as two naturals, of which one is 0: `up z` is z where z is not negative, `dn z` is -z where z is negative.
--- `omega (arith, signed)` proves linear facts about signed numbers: the set turns each `≤ℤ`, `<ℤ`, `≡` of ℤ, `SFits` and each test `le_z`, `lt_z` in reach, and the goal, into facts about the parts.
+-- `omega (arith, signed)` proves linear facts about signed numbers: the set turns each `≤ℤ`, `<ℤ`, `≡` of ℤ, `SFits` and each test `le_z`, `lt_z` in
+-- reach, and the goal, into facts about the parts.
 -- Of each sum, difference, negation, multiple and magnitude its law goes into the list: `sum a b`, `diff a b`, `neg a`, `times n a`, `abs_is a`.
 -- Assumes nothing.
 use mathlib.Core.Path.{◌≡◌, refl, sym, ap, ◌∙◌, subst}

@@ -9,7 +9,7 @@ ghost use Rattle.step.specs.Internal.{Steppable};
 use clamp::Interval;
 use rules::{Direction, Event, Managed, Settings};
 
-// One interval of direction d: the seven rules in turn.
+// One interval of direction d: the seven rules in turn. By d, the number that document 01 gives it, its settings stand.
 #[tactic(auto, using(sums::proofs::SumsSize::sizes), unfolding(rules::specs::Interval::step_of))]
 pub fn step(settings: &Settings, d: usize, e: Event, s: Direction) -> Direction
     requires { (d < 8) × Steppable settings.now d e s }

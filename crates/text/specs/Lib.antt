@@ -1,4 +1,3 @@
 -- Text as lists of bytes.
 pub mod Text
-pub mod Internal
 pub mod Ascii

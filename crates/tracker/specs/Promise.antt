@@ -1,7 +1,7 @@
 -- What crates above the tracker may cite, and nothing else of it or of the crates that it is made of (with the laws of proofs/Promise): the words
--- of the calls, of demand 3 and of N8's law on a corridor's rows, and what the calls promise by them. (Crate `words`, which reads and writes bytes for all, is no part of
--- it.) What lies under these words is not opened from above: the tests of numbers 4 to 8, 10, 19 and 20, what a record says of a direction
--- (event_of), and what the rules make of its history (state_after).
+-- of the calls, of demand 3 and of N8's law on a corridor's rows, and what the calls promise by them. (Crate `words`, which reads and writes bytes
+-- for all, is no part of it.) What lies under these words is not opened from above: the tests of numbers 4 to 8, 10, 19 and 20, what a record says
+-- of a direction (event_of), and what the rules make of its history (state_after).
 use Rattle.std.specs.Prelude.{List, [], ◌∷◌, ◌++◌, ◌≡◌, ℕ, ◌<◌}
 -- amounts, flows and parts of a cent
 pub use Rattle.signed.specs.Range.{minus, negative}
@@ -25,8 +25,8 @@ pub use Rattle.rules.specs.declared.Refusal.{Refusal}
 pub use Rattle.rules.specs.declared.Refusal.TheVariants.{NotARecord, NumberTooHigh, NotAwaited, BadFlags, BadStatus, BadPrice, BadFlow, BadPreDispatch, BadFirst, BadShare, BadLength, BadTrailer, BadNumbers, NotInOrder, BadRecords, NoRoom, NoDirection, OutsideSpan, NotRising}
 pub use Rattle.rules.specs.declared.Answer.{Answer}
 pub use Rattle.rules.specs.declared.RowAnswer.{RowAnswer}
--- the number of a record and how bytes make it, its issue (N7), how conditions in their order make an outcome, and a test of each number below n
-unfoldable pub use Rattle.rules.specs.Record.{u32_at}
+-- how bytes make a number, the number of a record, its issue (N7), how conditions in their order make an outcome, and a test of each number below n
+unfoldable pub use Rattle.rules.specs.Record.{u32_at, i32_at}
 pub use Rattle.rules.specs.Record.{byte_at, record_number, issue}
 pub use Rattle.rules.specs.Refusal.{number, Outcome, number_of, is_accepted, Condition, ◌when◌, judged, number_met}
 unfoldable pub use Rattle.rules.specs.Refusal.{each}

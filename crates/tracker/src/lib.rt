@@ -21,7 +21,8 @@ fn shares_ok(shares: [u16; 6]) -> bool
     shares.iter().all(|&share| share <= 1000)
 }
 
-// The first condition that is met gives the number.
+// The first condition that is met gives the number. The first n, the shares and the settings come one by one, as the call has them: a struct of the
+// three would be made for this function and `fresh_tracker` alone.
 #[tactic(auto, unfolding(rules::specs::Refusal::open_outcome, rules::specs::Refusal::open_conditions))]
 fn open_outcome(first: u32, shares: [u16; 6], settings: Settings) -> Result<(), Refusal>
     ensures { result ≡ open_outcome first shares settings }
@@ -75,7 +76,8 @@ pub fn open(first: u32, shares: [u16; 6]) -> Answer
     open_with_settings(first, shares, settings::document01())
 }
 
-// One step for each direction.
+// One step for each direction. Its event and its state stand at its number: document 01 names an array of eight states, over which one step function
+// is mapped.
 fn step_all(settings: Settings, events: [Event; 8], directions: [Direction; 8]) -> [Direction; 8]
     requires { AllSteppable settings events directions }
     ensures { result ≡ all_stepped settings events directions }
@@ -99,7 +101,9 @@ fn advanced(t: Tracker, r: &Record<'_>) -> Tracker
     }
 }
 
-// Takes one interval's record, of any length and content. A refused one leaves the tracker as it was.
+// Takes one interval's record, of any length and content. A refused one leaves the tracker as it was: document 01 gives it beside a refusal's
+// number, so that each way of it ends in an `Answer`, and `?` has no place. `Came` is what is asked of a tracker, here and in the crates above: a
+// rule of the project has it as the one condition of an offered call.
 pub fn interval(tracker: Tracker, bytes: &[u8]) -> Answer
     requires { Came tracker }
     ensures { IntervalPromise tracker bytes.now result }
@@ -116,7 +120,7 @@ pub fn interval(tracker: Tracker, bytes: &[u8]) -> Answer
     }
 }
 
-// What direction d shows.
+// What direction d shows, a number as in `step`.
 fn row_of(t: &Tracker, d: usize) -> Row
     requires { Came t.now × (d < 8) }
     ensures { result ≡ row_of t.now d }

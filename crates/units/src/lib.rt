@@ -36,27 +36,31 @@ pub trait Quantity: Copy {
     }
 }
 
+// The three `whole`, and the three `+` below, are alike, one for each of the three types that document 01 keeps apart. An impl that a macro of the
+// repository's own writes is refused, so each is written out.
 impl Quantity for Cents {
-    ghost whole = { λ a. a.0 };
+    ghost whole = { λ cents. cents.0 };
 
     fn whole(self) -> i64 {
-        self.0
+        self.0 // cents
     }
 }
 
+// Written out as for `Cents`.
 impl Quantity for Hundredths {
-    ghost whole = { λ a. a.0 };
+    ghost whole = { λ flow. flow.0 };
 
     fn whole(self) -> i64 {
-        self.0
+        self.0 // hundredths of a MW
     }
 }
 
+// Written out as for `Cents`.
 impl Quantity for Grains {
-    ghost whole = { λ a. a.0 };
+    ghost whole = { λ grains. grains.0 };
 
     fn whole(self) -> i64 {
-        self.0
+        self.0 // grains
     }
 }
 
@@ -75,6 +79,7 @@ impl<Q: Quantity> Span<Q> {
     }
 }
 
+// The `+` of one of the three types: each has its own, written out, as with `whole`.
 impl Add for Cents {
     type Output = Cents;
 
@@ -95,6 +100,7 @@ impl Cents {
         self.min(Cents(0))
     }
 
+    // No `From`, since it asks that the grains fit.
     pub fn in_grains(self) -> Grains
         requires { SFits w64 (pos 2400000 *ℤ self.0) }
         ensures { result ≡ in_grains self }
@@ -103,6 +109,7 @@ impl Cents {
     }
 }
 
+// Written out as for `Cents`.
 impl Add for Hundredths {
     type Output = Hundredths;
 
@@ -139,6 +146,7 @@ impl Neg for Hundredths {
     }
 }
 
+// Written out as for `Cents`.
 impl Add for Grains {
     type Output = Grains;
 

@@ -5,7 +5,7 @@ use Rattle.std.proofs.lemmas.Grind.{common_steps}
 use Rattle.std.proofs.lemmas.List.{map_more, map-append, take-append-drop}
 use mathlib.Core.List.{flatten, map}
 use borrow.Rule.Slice.PartMut.{mid_of, post_of, put_mid}
-use Rattle.words.specs.Buffer.{Puts}
+use Rattle.words.specs.Buffer.{Puts, Filled, put_before}
 
 -- nothing put yet: for a loop's start
 pub nothing : (d : List ℕ) → Puts [] d 0 d
@@ -54,3 +54,19 @@ module _ {A : Type 0} (f : A → List ℕ) (xs : List A) (i : ℕ) (def : A) (h 
   pub part_put : {d out tail : List ℕ} {a b : ℕ} → Puts (flatten (map f (take i xs))) d a out → Puts (f (get_or xs i def)) (mid_of a (length out - a) out) b tail
       → Puts (flatten (map f (take (i + 1) xs))) d (a + b) (put_mid a (length out - a) out tail)
   part_put p q = rw first_more (chained p q)
+
+-- ---- from the end on
+pub text_put : (x : List ℕ) (r : Filled) → (put_before x r).text ≡ x ++ r.text
+unfolding put_before
+text_put x r = refl
+
+pub free_left : (x : List ℕ) (r : Filled) → length (put_before x r).free ≡ length r.free - length x
+unfolding put_before
+free_left x r = grind (arith, common_steps)
+
+pub put_twice : (x y : List ℕ) (r : Filled) → put_before x (put_before y r) ≡ put_before (x ++ y) r
+unfolding put_before
+put_twice x y r = grind (arith, common_steps)
+
+-- for a writer that puts its bytes by others
+pub ruleset before = (text_put, free_left, put_twice, common_steps)

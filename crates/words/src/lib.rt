@@ -1,9 +1,13 @@
 // Numbers as bytes hold them, the lowest byte first, and bytes put into a buffer. A writer, also of another crate, puts its bytes at the start
 // of the slice that it is lent, leaves every other byte as it was, and gives how many they are: the next one is lent what is behind them.
+//
+// A caller adds up what its writers give: `n += words::put_u32(x, &mut out[n..])`. A struct of the slice and that count would be no plainer: a
+// writer that is lent the slice at which it begins says nothing of what stands before, and the functions offered outside, which take a slice
+// and give a count, would each make such a struct and give its room back.
 
 #![tactic(auto)]
 
-ghost use Rattle.std.specs.Prelude.{◌≡◌, ◌∷◌, [], ◌+◌, ◌<◌, ◌≤◌, length};
+ghost use Rattle.std.specs.Prelude.{◌≡◌, ◌+◌, ◌≤◌, length};
 ghost use Rattle.rules.specs.Record.{u32_at};
 ghost use Rattle.words.specs.Buffer.{little_of, Puts};
 ghost use Rattle.words.specs.Internal.{IsI32};
@@ -12,6 +16,7 @@ pub use from_end::FromEnd;
 
 mod from_end;
 
+// The four bytes are named, here and below: a part of a slice becomes an array by way of an `Option`, which is no plainer where it can't be `None`.
 #[inline]
 #[tactic(auto, unfolding(rules::specs::Record::u32_at))]
 pub fn u32_at(s: &[u8], at: usize) -> u32
@@ -29,16 +34,6 @@ pub fn i32_at(s: &[u8], at: usize) -> i64
     ensures { IsI32 s.now at result }
 {
     i64::from(i32::from_le_bytes([s[at], s[at + 1], s[at + 2], s[at + 3]]))
-}
-
-// One byte.
-#[inline]
-pub fn put_byte(b: u8, out: &mut [u8]) -> usize
-    requires { 0 < length out.old }
-    ensures { Puts (b ∷ []) out.old result out.new }
-{
-    out[0] = b;
-    1
 }
 
 // Bytes as they stand: names, the header, records.

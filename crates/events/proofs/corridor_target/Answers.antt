@@ -1,3 +1,4 @@
+-- Each turn adds the next physical interconnector's target; the sum stays small.
 use Rattle.std.proofs.Common.{◌+◌, arith, add-one}
 use Rattle.signed.proofs.Calc.{abs-add}
 use Rattle.events.proofs.corridor_target.Goals as goal

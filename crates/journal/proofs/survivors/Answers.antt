@@ -16,27 +16,27 @@ returns-in_err-read c =
 pub survivors_length-requires : goal.survivors_length-requires
 survivors_length-requires c =
     let h = held_lem c.args.journal.now c.in_ok-read.ensures.is in
-    rw (c.counted_records-records.ensures ∙ h.records) h.passed.order
+    rw (c.last_records-records.ensures ∙ h.records) h.passed.order
 
 pub returns-in_err-when : goal.returns-in_err-when
 unfolding surviving_of survivors_buffer
 returns-in_err-when c =
     let s = c.args.journal.now in
     let h = held_lem s c.in_ok-read.ensures.is in
-    let e = c.counted_records-records.ensures ∙ h.records in
+    let e = c.last_records-records.ensures ∙ h.records in
     let j = by_room s (length c.args.out.now) h.accepted in
     survivors_promise _ _ (grind arith) (grind arith)
 
 pub put_survivors-n-requires : goal.put_survivors-n-requires
 put_survivors-n-requires c =
     let h = held_lem c.args.journal.now c.in_ok-read.ensures.is in
-    (rw (c.counted_records-records.ensures ∙ h.records) h.passed.order, grind arith)
+    (rw (c.last_records-records.ensures ∙ h.records) h.passed.order, grind arith)
 
 pub overflow_cast-result : goal.overflow_cast-result
 overflow_cast-result c =
     let s = c.args.journal.now in
     let h = held_lem s c.in_ok-read.ensures.is in
-    let e = c.counted_records-records.ensures ∙ h.records in
+    let e = c.last_records-records.ensures ∙ h.records in
     let put = rw e at c.put_survivors-n.ensures.counted in
     let shape = h.passed.shape in
     omega (arith, put, survivors_length_lem (part s), no_more (part s), part_length s shape, shape.back, shape.most)
@@ -46,7 +46,7 @@ unfolding surviving_of survivors_buffer
 returns c =
     let s = c.args.journal.now in
     let h = held_lem s c.in_ok-read.ensures.is in
-    let e = c.counted_records-records.ensures ∙ h.records in
+    let e = c.last_records-records.ensures ∙ h.records in
     let j = by_room s (length c.args.out.now) h.accepted in
     let put = rw e at c.put_survivors-n.ensures in
     let n : c.put_survivors-n.result / record_length ≡ length (survivors (part s)) = omega (arith, put.counted, survivors_length_lem (part s)) in

@@ -1,17 +1,19 @@
 -- The header, then what follows it. The buffer has room for the longest listing.
-use Rattle.std.proofs.Common.{arith}
+use Rattle.std.proofs.Common.{Bool, false, arith}
 use mathlib.Core.List.{flatten}
 use Rattle.words.proofs.Parts.{chained, room_behind}
 use Rattle.listing.specs.Listing.{header, input_lines}
 use Rattle.listing.proofs.ListingLength.{listing_parts, listing_short}
 use Rattle.listing.proofs.listing.Goals as goal
 
+-- There is room whatever more is.
 pub input_lines-requires : goal.input_lines-requires
 unfolding header
 input_lines-requires c =
     let a = c.args in
-    let short = rw (listing_parts a.input.now a.more) at (listing_short a.input.now a.more) in
-    room_behind (flatten (input_lines a.input.now a.more)) c.put_bytes-n.ensures (omega (arith, short))
+    let short = λ (more : Bool). rw (listing_parts a.input.now more) at (listing_short a.input.now more) in
+    let room = λ (more : Bool). room_behind (flatten (input_lines a.input.now more)) c.put_bytes-n.ensures (omega (arith, short more)) in
+    omega (arith, room a.more, room false)
 
 pub returns-clause-value : goal.returns-clause-value
 unfolding header

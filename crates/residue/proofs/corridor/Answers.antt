@@ -1,17 +1,18 @@
 -- Each turn adds the next line; the sums stay small.
-use Rattle.std.proofs.Common.{◌≤◌, nat_abs, arith}
+use Rattle.std.proofs.Common.{arith}
 use Rattle.signed.proofs.Calc.{sum_fits}
-use Rattle.residue.specs.Internal.{highest_grains}
+use Rattle.rules.specs.declared.Region.{Region}
 use Rattle.residue.proofs.LineBounds.{line_in_range, line_small}
 use Rattle.residue.proofs.CorridorSum.{one_more, sum_so_far, flow_so_far, all_lines}
 use Rattle.residue.proofs.corridor.Goals as goal
 
+-- A line's grains are small whichever price is which.
 pub add-sum-requires : goal.add-sum-requires
 add-sum-requires c =
     let r = c.corridor_at-at.result in
-    let small : nat_abs c.grains.result.0 ≤ highest_grains =
-    rw (c.grains.ensures, c.price-to.ensures, c.price-from.ensures) (line_small (line_in_range c.requires.1 r.to r.from c.loop-i.i)) in
-    sum_fits c.loop-i.sum.0 c.grains.result.0 (omega (arith, sum_so_far c.loop-i.invariant c.requires.1))
+    let small = λ (to from : Region). line_small (line_in_range c.requires.1 to from c.loop-i.i) in
+    rw (c.grains.ensures, c.price-to.ensures, c.price-from.ensures)
+    (sum_fits c.loop-i.sum.0 _ (omega (arith, sum_so_far c.loop-i.invariant c.requires.1, small r.to r.from, small r.from r.to)))
 
 pub add-flow-requires : goal.add-flow-requires
 add-flow-requires c = sum_fits c.loop-i.flow.0 _ (omega (arith, flow_so_far c.loop-i.invariant c.requires.1, c.requires.1.flow c.loop-i.i))

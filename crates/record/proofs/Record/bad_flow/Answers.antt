@@ -1,3 +1,4 @@
+-- That all six lines pass is what the definition asks of each physical interconnector.
 use Rattle.std.proofs.Common.{ap, not, rules}
 use borrow.Author.Tests.{tests}
 use Rattle.rules.specs.Refusal.{line_ok, bad_flow}

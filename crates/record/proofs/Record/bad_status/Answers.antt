@@ -1,3 +1,4 @@
+-- That all eight status bytes pass is what the definition asks of each direction.
 use Rattle.std.proofs.Common.{ap, not, rules, arith}
 use borrow.Author.Tests.{tests}
 use Rattle.rules.specs.Refusal.{status_ok, bad_status}

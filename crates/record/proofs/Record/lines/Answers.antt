@@ -1,3 +1,4 @@
+-- The six lines are those that the definition lists.
 use Rattle.std.proofs.Common.{rules}
 use borrow.Author.Tests.{tests}
 use Rattle.rules.specs.Record.{line_at, lines}

@@ -1,3 +1,4 @@
+-- Once the prices pass, that all six lines pass is what is left of the definition.
 use Rattle.std.proofs.Common.{rules}
 use borrow.Author.Tests.{tests}
 use Rattle.rules.specs.Refusal.{pre_dispatch_line_ok, pre_dispatch_inside}

@@ -1,3 +1,4 @@
+-- The six lines of pre-dispatch are those that the definition lists.
 use Rattle.std.proofs.Common.{rules}
 use borrow.Author.Tests.{tests}
 use Rattle.rules.specs.Record.{pre_dispatch_line_at, pre_dispatch_lines}

@@ -1,3 +1,4 @@
+-- That all four prices pass is what the definition asks of each region.
 use Rattle.std.proofs.Common.{rules}
 use borrow.Author.Tests.{tests}
 use Rattle.record.specs.Internal.{region_ok}

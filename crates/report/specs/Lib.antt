@@ -1,0 +1,2 @@
+-- What the programs' reading of bytes gives.
+pub mod Settings
