@@ -118,7 +118,8 @@ fn number_of<T: Drop>(answer: Result<T, Refusal>) -> u64 {
     answer.err().map_or(0, |why| u64::from(u8::from(why)))
 }
 
-// What an opening or an interval call answers. A refused one too goes on with the tracker beside it.
+// What an opening or an interval call answers. A refused one too goes on with the tracker beside it. `Came` is what is asked of a tracker, here and
+// below, as in crate `tracker`.
 fn print_answer(rt: &impl Print, answer: Answer) -> io::Result<Tracker>
     requires { Came answer.tracker }
     ensures { IfOk result Came }

@@ -228,6 +228,7 @@ impl<'a> Iterator for Surviving<'a> {
 
     ghost remaining = { item_count (λ s. s) };
 
+    // Records are passed over until one is a survivor.
     fn next(&mut self) -> Option<&'a RecordBytes> {
         while let [bytes, others @ ..] = self.others {
             self.others = others;
@@ -247,7 +248,7 @@ fn survivors_length(records: &[u8]) -> usize
     RECORD * Surviving::among(records).count()
 }
 
-// The survivors, at the start of a buffer that has room for them.
+// The survivors, at the start of a buffer that has room for them. A writer, as `fill` below, has the form of crate `words`.
 fn put_survivors(records: &[u8], out: &mut [u8]) -> usize
     requires { (in_order records.now ≡ true) × (length (flatten (survivors records.now)) ≤ length out.old) }
     ensures { Puts (flatten (survivors records.now)) out.old result out.new }

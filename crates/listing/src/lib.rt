@@ -234,7 +234,7 @@ pub fn read_full<R: Read>(source: &mut R, buffer: &mut [u8]) -> io::Result<usize
     Ok(done)
 }
 
-// Reads a journal into one lent buffer, and whether more follows; lists it in the other, and prints that.
+// Reads a journal into one lent buffer, and whether more follows; lists it in the other, and prints that. Both are lent, since there is no heap.
 pub fn print_listing<R: Read, W: Write>(
     source: &mut R,
     input: &mut [u8],

@@ -110,7 +110,7 @@ pub fn print_for_trader(rt: &impl Print, row: Row) -> io::Result<()>
     print_quantity(rt, shown.next, b'\n')
 }
 
-// Who reads rows: what is printed of a row for such a reader.
+// Who reads rows: what is printed of a row for such a reader. Each of the two shows a row by a function of its own.
 pub trait Reader {
     fn print(&self, rt: &impl Print, row: Row) -> io::Result<()>
         requires { RowBounds row };
@@ -144,7 +144,8 @@ pub fn print_refusal(rt: &impl Print, why: impl Into<u8>) -> io::Result<()> {
 // As long as the most records of a journal are.
 const MOST_BYTES: usize = journal::MOST_RECORDS * RECORD;
 
-// All eight rows after each surviving record of a journal (N7), which the second call gives, up to a refusal.
+// All eight rows after each surviving record of a journal (N7), which the second call gives, up to a refusal. `Came` is what is asked of a tracker,
+// as in crate `tracker`.
 fn run_survivors(
     rt: &impl Print,
     t: Tracker,

@@ -1,24 +1,44 @@
--- What a loop over a corridor's lines has summed before line i.
+-- What is summed of a corridor's lines is small, and what a loop over them has summed before line i.
 -- Assumes nothing.
 use mathlib.Core.Path.{◌≡◌}
-use mathlib.Core.List.{List}
+use mathlib.Core.List.{List, []}
 use Prim.Native.Nat.{ℕ, ◌+◌, ◌≤◌, ◌<◌}
 use native.Mathlib.Nat as N
 use native.Mathlib.Numerals.{add-one}
 use native.Mathlib.Omega.{arith}
 use lib.Dec.{lit≤}
-use lib.IntN.{nat_abs}
+use lib.IntN.{ℤ, nat_abs}
+use lib.ListN.{get_or}
 use Rattle.signed.specs.Range.{negative}
 use Rattle.units.specs.declared.Cents.{Cents}
 use Rattle.units.specs.declared.Grains.{Grains}
 use Rattle.units.specs.declared.Hundredths.{Hundredths}
 use Rattle.units.specs.Units.{hundredths, grains, ◌+ᵍ◌, ◌+ʰ◌}
 use Rattle.rules.specs.declared.Line.{Line}
+use Rattle.rules.specs.declared.Region.{Region}
 use Rattle.rules.specs.Market.{corridor}
-use Rattle.rules.specs.Residue.{sum_from, line, line_grains, in_cents, corridor_residue}
+use Rattle.rules.specs.Residue.{grains_of, sum_from, price, line, line_grains, in_cents, corridor_residue}
 use Rattle.rules.proofs.Corridors.{in_table_lem}
 use Rattle.residue.specs.Internal.{InRange, highest_corridor_grains}
 use Rattle.residue.proofs.LineBounds.{line_in_range, line_small, sum_small}
+
+module _ (p q : Cents) (shares : List ℕ) (lines : List Line) where
+  -- the grains and the a of line i, at the prices p and q
+  abbrev pub grains_at : ℕ → ℤ
+  grains_at i = (grains_of p q (get_or shares i 0) (line [] shares lines i)).0
+
+  abbrev pub flow_at : ℕ → ℤ
+  flow_at i = (line [] shares lines i).a.0
+
+-- what is summed of j lines, two at most, between the regions `to` and `from`
+module _ {prices : List Cents} {shares : List ℕ} {lines : List Line} (h : InRange prices shares lines) (to from : Region) (first j : ℕ) (few : j ≤ 2) where
+  pub grains_so_far : (sum : Grains) → sum ≡ grains (sum_from first j (grains_at (price prices shares lines to) (price prices shares lines from) shares lines))
+      → nat_abs sum.0 ≤ highest_corridor_grains
+  grains_so_far sum is = rw is (sum_small first j _ few (λ i. line_small (line_in_range h to from i)))
+
+  pub flow_so_far : (flow : Hundredths) → flow ≡ hundredths (sum_from first j (flow_at (price prices shares lines to) (price prices shares lines from) shares lines))
+      → nat_abs flow.0 ≤ highest_corridor_grains
+  flow_so_far flow is = rw is (sum_small first j _ few (λ i. N.le_trans (h.flow i) (lit≤ tt)))
 
 module _ (prices : List Cents) (shares : List ℕ) (lines : List Line) (c : ℕ) where
   -- the sums over the corridor's first j lines, of which line i is the next
@@ -45,11 +65,11 @@ module _ {prices : List Cents} {shares : List ℕ} {lines : List Line} {c i : �
     few : s.j ≤ 2
     few = omega (arith, (in_table_lem c).few)
 
-    pub sum_so_far : nat_abs sum.0 ≤ highest_corridor_grains
-    sum_so_far = rw s.grains_are (sum_small (corridor c).first s.j _ few (λ i. line_small (line_in_range h (corridor c).to (corridor c).from i)))
+    pub sum_in_range : nat_abs sum.0 ≤ highest_corridor_grains
+    sum_in_range = grains_so_far h (corridor c).to (corridor c).from (corridor c).first s.j few sum s.grains_are
 
-    pub flow_so_far : nat_abs flow.0 ≤ highest_corridor_grains
-    flow_so_far = rw s.flow_is (sum_small (corridor c).first s.j _ few (λ i. N.le_trans (h.flow i) (lit≤ tt)))
+    pub flow_in_range : nat_abs flow.0 ≤ highest_corridor_grains
+    flow_in_range = flow_so_far h (corridor c).to (corridor c).from (corridor c).first s.j few flow s.flow_is
 
   -- after the last line they are the corridor's
   pub all_lines : (corridor c).first + (corridor c).lines ≤ i → record { residue = in_cents sum; reverse = negative flow.0 } ≡ corridor_residue prices shares lines c
