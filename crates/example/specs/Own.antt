@@ -1,7 +1,7 @@
 -- Demand 3 of a list of two calls, about direction 2, and of one call under settings (N2), about direction 4; N8's law of a list of one call; and
 -- N6's laws of the views of two rows.
 use Rattle.std.specs.Prelude.{Ok, true, List, [], ◌∷◌, ◌≡◌, ℕ}
-use Rattle.tracker.specs.Promise.{Row, Settings, judged, open_conditions, opening_with, opening, first_of, shares_of, settings_of, accepted, history, awaited_from, DirectionClaim, residue_shown, together, grains_in}
+use Rattle.tracker.specs.Promise.{Row, Settings, judged, open_conditions, opening_with, opening, first_of, shares_of, settings_of, accepted, DirectionClaim, residue_shown, together, grains_in}
 use Rattle.readers.specs.Views.{Alike, shows_anything}
 use Rattle.readers.specs.Promise.{TraderPromise, ControlPromise}
 use Rattle.example.specs.declared.BothWays.{BothWays}
@@ -12,14 +12,13 @@ abbrev pub Own : ℕ → List ℕ → List ℕ → List ℕ → Row → Type 0
 Own first shares earlier later r =
     let o = opening first shares in
     let calls = earlier ∷ later ∷ [] in
-    DirectionClaim (settings_of o) (first_of o) 2 (history o 2 (accepted o calls)) (awaited_from o calls) r
+    DirectionClaim o 2 (accepted o calls) r
 
--- If the opening is accepted, the same with the caller's own settings and first n.
+-- The claim of direction 4; and if the opening is accepted, the first n, the shares and the settings that it reads are the caller's own.
 abbrev pub Tried : ℕ → List ℕ → Settings → List ℕ → Row → Type 0
 Tried first shares set b r =
     let o = opening_with first shares set in
-    let calls = b ∷ [] in
-    judged (open_conditions first shares set) ≡ Ok tt → DirectionClaim set first 4 (history o 4 (accepted o calls)) (awaited_from o calls) r
+    DirectionClaim o 4 (accepted o (b ∷ [])) r × (judged (open_conditions first shares set) ≡ Ok tt → (first_of o ≡ first) × (shares_of o ≡ shares) × (settings_of o ≡ set))
 
 -- If the record b is accepted, forward plus reverse cents, with their leftovers, make the grains that corridor 1 has in it.
 abbrev pub Complete : ℕ → List ℕ → List ℕ → BothWays → Type 0

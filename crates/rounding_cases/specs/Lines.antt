@@ -4,8 +4,7 @@ use Rattle.rules.specs.declared.Tracker.{Tracker}
 use Rattle.rules.specs.Market.{of_directions}
 use Rattle.rules.specs.Tracker.{Opening, opening, shares_of, open_of, after}
 use Rattle.rules.specs.Claim.{accept_call}
-use Rattle.rules.specs.Figures.{halves}
-use Rattle.rules.specs.RoundingFigures.{Compared, compared_at}
+use Rattle.rules.specs.Figures.{halves, Compared, compared_at}
 use Rattle.rounding_cases.specs.Records as records
 use Rattle.rounding_cases.specs.Stored as stored
 

@@ -2,7 +2,7 @@
 use mathlib.Core.List.{List, [], ◌∷◌, ◌++◌, flat_map}
 use Rattle.std.specs.Prelude.{ℕ, ℤ, pos, take, replicate}
 use Rattle.signed.specs.Range.{minus}
-use Rattle.rules.specs.RoundingFigures.{bytes_of, signed_bytes, one_line}
+use Rattle.rules.specs.Figures.{bytes_of, signed_bytes, one_line}
 
 -- A record by its n, flags, eight statuses and the numbers from byte 16 on, as many as there are; the rest is zero.
 abbrev pub written : ℕ → ℕ → List ℕ → List ℤ → List ℕ

@@ -2,7 +2,7 @@
 -- of them the grains were assigned to the direction.
 use Rattle.std.specs.Prelude.{List, [], ◌∷◌, ℕ, pos}
 use Rattle.signed.specs.Range.{minus}
-use Rattle.rules.specs.RoundingFigures.{Compared, comparing}
+use Rattle.rules.specs.Figures.{Compared, comparing}
 
 -- Amount and unrounded sum 0.
 abbrev pub zeros : ℕ → ℕ → Compared

@@ -9,8 +9,8 @@ use Rattle.signed.specs.Range.{minus}
 use Rattle.signed.proofs.NatParts.{signed, sum, diff, neg, times}
 use Rattle.units.specs.declared.Grains.{Grains}
 use Rattle.units.specs.Units.{grains}
-use Rattle.rules.specs.Residue.{with_sign, in_cents, no_residue, together}
-use Rattle.rules.specs.Bounds.{half_cent, WithinHalfCent}
+use Rattle.rules.specs.Residue.{half_cent, with_sign, in_cents, no_residue, together}
+use Rattle.rules.specs.Bounds.{WithinHalfCent}
 
 -- ---- nothing is lost
 -- Cents, in grains, and what they leave of g make g.

@@ -1,6 +1,6 @@
 -- Demand 3, for every opening, with any settings (N2), every list of calls and every direction.
 -- Assumes nothing.
-use mathlib.Core.Path.{◌≡◌, refl, ap}
+use mathlib.Core.Path.{◌≡◌, refl, sym, ap, subst}
 use mathlib.Core.Bool.{Bool, true, false, not, cond}
 use mathlib.Core.List.{List, [], ◌∷◌}
 use Prim.Native.Nat.{ℕ, ◌<◌}
@@ -14,12 +14,14 @@ use Rattle.rules.specs.declared.Row.{Row}
 use Rattle.rules.specs.Interval.{step_of}
 use Rattle.rules.specs.History.{state_after}
 use Rattle.rules.specs.Record.{event_of}
-use Rattle.rules.specs.Tracker.{Opening, first_of, settings_of, accepts, advanced, interval_of, after, row, row_of, run}
-use Rattle.rules.specs.Claim.{awaited_after, accepted, history, worked_row, DirectionClaim, ClaimOf, Claim}
+use Rattle.rules.specs.Rounding.{Rounding}
+use Rattle.rules.specs.Tracker.{Opening, first_of, shares_of, settings_of, accepts, advanced, interval_of, after, row, row_of, run}
+use Rattle.rules.specs.Claim.{accepted, history, worked_row, DirectionClaim, ClaimOf, Claim}
 use Rattle.rules.proofs.AcceptedSettings.{settled, threshold_below}
 use Rattle.rules.proofs.PeriodInvariant.{recent_of}
 use Rattle.rules.proofs.Consecutive.{next_number}
 use Rattle.rules.proofs.OneDirection.{sum_of, span_of, inside_of, Got}
+use Rattle.rules.proofs.Rounding.{direction_rounding}
 use Rattle.rules.proofs.Replay.{Replays, replays, shown_after, next_is}
 
 refused : (t : Tracker) (b : List ℕ) → T (not (accepts t.awaited b)) → after t b ≡ t
@@ -44,20 +46,23 @@ module _ (o : Opening) (t : Tracker) (bs : List (List ℕ)) (r : Replays o t bs)
   unfolding row_of
   row_is d lt = rw (r.shows, r.each d lt)
 
-  direction : (d : ℕ) → d < 8 → DirectionClaim (settings_of o) (first_of o) d (history o d bs) (awaited_after o bs) (row_of t d)
+  direction : (d : ℕ) → d < 8 → DirectionClaim o d bs (row_of t d)
+  unfolding history
   direction d lt =
       let es = history o d bs in
       let turn = r.turns d in
       let set = settings_of o in
       let below = threshold_below set (settled o) in
       let recent = recent_of (Got set es) (next_number (first_of o) es) (state_after set d es).period (span_of set d below (first_of o) es turn) in
-      rw (← next_is o d bs, row_is d lt) (record {
+      let total = ap (λ (z : ℤ). cents z) (sum_of set d (first_of o) es turn).total in
+      rw (row_is d lt) (record {
         is_worked = worked o d bs;
-        sum = ap (λ (z : ℤ). cents z) (sum_of set d (first_of o) es turn).total;
-        clamped = inside_of set d below (first_of o) es turn;
-        caused = λ inside.
+        sum = total;
+        clamped = rw (← next_is o d bs) (inside_of set d below (first_of o) es turn);
+        caused = rw (← next_is o d bs) (λ inside.
             let w = recent inside in
-            record { ago = w.0; recent = omega (arith, w.1, w.2.0); accepted = w.2.0; got = w.2.1; unreviewed = w.2.2 };
+            record { ago = w.0; recent = omega (arith, w.1, w.2.0); accepted = w.2.0; got = w.2.1; unreviewed = w.2.2 });
+        rounding = subst (Rounding (shares_of o) d bs) (sym total) (direction_rounding (shares_of o) d bs);
       })
 
   pub claim_of : ClaimOf o bs t

@@ -18,7 +18,6 @@ pub mod RowNotice
 pub mod Consecutive
 pub mod OneDirection
 pub mod Rounding
-pub mod RoundingFigures
 pub mod Replay
 pub mod Fresh
 pub mod Refusals
@@ -26,8 +25,6 @@ pub mod UnreadIssue
 pub mod TakenNumbers
 pub mod SettingsRefused
 pub mod Demand
-pub mod RoundingDemand
-pub mod ByRounding
 pub mod Came
 pub mod ByClaim
 pub mod StateBounds

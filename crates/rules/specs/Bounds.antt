@@ -6,6 +6,7 @@ use Rattle.rules.specs.declared.Period.{Period}
 use Rattle.rules.specs.declared.Period.TheVariants.{None, Held}
 use Rattle.rules.specs.declared.Direction.{Direction}
 use Rattle.rules.specs.declared.Row.{Row}
+use Rattle.rules.specs.Residue.{half_cent}
 use Rattle.rules.specs.Refusal.{highest_number}
 
 -- cents: a residue, an estimate, and a sum of residues over all intervals
@@ -19,9 +20,6 @@ abbrev pub highest_sum : ℕ
 highest_sum = suc highest_number * highest_residue
 
 -- grains: what rounding leaves over lies between -1,200,000 and 1,200,000, half a cent either way, both included (N8)
-abbrev pub half_cent : ℕ
-half_cent = 1200000
-
 abbrev pub WithinHalfCent : Grains → Type 0
 WithinHalfCent g = Within (minus half_cent) (pos half_cent) g.0
 

@@ -1,4 +1,4 @@
--- Demand 3: a single claim about the whole list of interval calls, all its parts together.
+-- Demand 3: a single claim about the whole list of interval calls, all its parts together. The last part of DirectionClaim, (rounding), is N9's.
 use Rattle.std.specs.Prelude.{true, false, not, cond, ◌≡◌, ℕ, suc, ◌<◌, T, pos, length}
 use mathlib.Core.List.{List, [], ◌∷◌, foldl, map}
 use Rattle.units.specs.Units.{cents, grains}
@@ -9,6 +9,7 @@ use Rattle.rules.specs.declared.Settings.{Settings}
 use Rattle.rules.specs.Interval.{fresh}
 use Rattle.rules.specs.History.{sum_since, got_there, under_review, GotThereWithin, lies_in, state_after}
 use Rattle.rules.specs.Record.{record_number, event_of}
+use Rattle.rules.specs.Rounding.{Rounding}
 use Rattle.rules.specs.Tracker.{Opening, first_of, shares_of, settings_of, accepts, row, row_of, after, run}
 
 -- Which calls are accepted follows from the opening and the records by numbers 1 to 8. The accepted records stand the latest first.
@@ -42,18 +43,32 @@ awaited_from o calls = awaited_after o (accepted o calls)
 abbrev pub worked_from : Opening → List (List ℕ) → ℕ → Row
 worked_from o calls d = worked_row (settings_of o) (first_of o) d (history o d (accepted o calls))
 
--- Of one direction: set is the settings of the opening (N2), es its history, a the awaited number, r the tracker's row.
-pub record DirectionClaim (set : Settings) (first d : ℕ) (es : List Event) (a : ℕ) (r : Row) : Type 0 where
-  -- (row) the tracker's row equals the one that document 01 works out from the opening and those calls
-  pub is_worked : r ≡ worked_row set first d es
-  -- (sum) the row's accumulated amount equals the sum of that direction's negative residues over the accepted intervals after its
-  -- latest clearing interval
-  pub sum : r.amount ≡ sum_since es
-  -- (clamped) if that sum plus the next-half-hour estimate is at or below the settings' threshold (N2) and the latest accepted interval is not
-  -- under review, the next interval lies in the row's management period
-  pub clamped : T (got_there set es) → T (not (under_review es)) → T (lies_in a r.period)
-  -- (not without cause) the next interval lies in it only if one of the last twelve accepted intervals got there without review
-  pub caused : T (lies_in a r.period) → GotThereWithin 12 set es
+module _ (o : Opening) (d : ℕ) (bs : List (List ℕ)) where
+  -- The settings of the opening (N2), the direction's history and the awaited number.
+  abbrev set : Settings
+  set = settings_of o
+
+  abbrev es : List Event
+  es = history o d bs
+
+  abbrev a : ℕ
+  a = awaited_after o bs
+
+  -- Of one direction d, after an opening and the accepted records bs: r is the tracker's row.
+  pub record DirectionClaim (r : Row) : Type 0 where
+    -- (row) the tracker's row equals the one that document 01 works out from the opening and those calls
+    pub is_worked : r ≡ worked_row set (first_of o) d es
+    -- (sum) the row's accumulated amount equals the sum of that direction's negative residues over the accepted intervals after its
+    -- latest clearing interval
+    pub sum : r.amount ≡ sum_since es
+    -- (clamped) if that sum plus the next-half-hour estimate is at or below the settings' threshold (N2) and the latest accepted interval is
+    -- not under review, the next interval lies in the row's management period
+    pub clamped : T (got_there set es) → T (not (under_review es)) → T (lies_in a r.period)
+    -- (not without cause) the next interval lies in it only if one of the last twelve accepted intervals got there without review
+    pub caused : T (lies_in a r.period) → GotThereWithin 12 set es
+    -- (rounding, N9) the row's amount and the unrounded sum differ by at most half a cent for each interval in the span in which the grains were
+    -- assigned to the direction; with none both are 0
+    pub rounding : Rounding (shares_of o) d bs r.amount
 
 -- Of an opening, the accepted records and the tracker t that they left.
 pub record ClaimOf (o : Opening) (bs : List (List ℕ)) (t : Tracker) : Type 0 where
@@ -61,7 +76,7 @@ pub record ClaimOf (o : Opening) (bs : List (List ℕ)) (t : Tracker) : Type 0 w
   pub eight : length t.directions ≡ 8
   -- a refused interval call hands on the tracker it got
   pub hands_on : (b : List ℕ) → T (not (accepts (awaited_after o bs) b)) → after t b ≡ t
-  pub each : (d : ℕ) → d < 8 → DirectionClaim (settings_of o) (first_of o) d (history o d bs) (awaited_after o bs) (row_of t d)
+  pub each : (d : ℕ) → d < 8 → DirectionClaim o d bs (row_of t d)
 
 -- Of an opening, any list of calls and the tracker t that they left.
 abbrev pub Claim : Opening → List (List ℕ) → Tracker → Type 0

@@ -1,15 +1,15 @@
 -- What document 01 means, in its order. What a request of document 02 changes stands where document 01's sentence stood, marked with the
--- request, as "(N4)"; N2's settings have a file of their own, before the rules that read them. Bounds and, for N9, Rounding follow from it.
+-- request, as "(N4)"; N2's settings and N9's unrounded sum have files of their own: Settings, before the rules that read it, and Rounding, after
+-- the record that it reads. Bounds follows from all this.
 pub mod Market
 pub mod Residue
 pub mod Settings
 pub mod Interval
 pub mod History
 pub mod Record
+pub mod Rounding
 pub mod Refusal
 pub mod Tracker
 pub mod Claim
 pub mod Bounds
-pub mod Rounding
 pub mod Figures
-pub mod RoundingFigures

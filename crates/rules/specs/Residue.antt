@@ -31,6 +31,10 @@ abbrev pub with_sign : ℤ → ℕ → ℤ
 with_sign (pos z) n = pos n
 with_sign (negsuc z) n = minus n
 
+-- Half a cent, in grains (N8, N9).
+abbrev pub half_cent : ℕ
+half_cent = 1200000
+
 -- 2,400,000 grains are one cent: rounded to the nearest cent, halves away from zero.
 abbrev pub rounded : Grains → Cents
 rounded g = cents (with_sign g.0 ((nat_abs g.0 + 1200000) / 2400000))

@@ -7,12 +7,9 @@ use Rattle.units.specs.declared.Cents.{Cents}
 use Rattle.units.specs.declared.Grains.{Grains}
 use Rattle.units.specs.Units.{cents, grains, in_grains, ◌+ᵍ◌, ◌-ᵍ◌}
 use Rattle.rules.specs.Market.{corridor_of, reverse}
-use Rattle.rules.specs.Residue.{corridor_flow}
+use Rattle.rules.specs.Residue.{half_cent, corridor_flow}
 use Rattle.rules.specs.History.{clearing}
 use Rattle.rules.specs.Record.{prices, lines, grains_in, event_of}
-use Rattle.rules.specs.Tracker.{Opening, shares_of}
-use Rattle.rules.specs.Claim.{accepted}
-use Rattle.rules.specs.Bounds.{half_cent}
 
 -- The lower of grains and 0.
 abbrev pub lower_grains : Grains → Grains
@@ -66,7 +63,3 @@ pub record Rounding (shares : List ℕ) (d : ℕ) (bs : List (List ℕ)) (amount
   pub near : NearFor (length (assigned_span shares d bs)) amount (unrounded shares d bs)
   -- with no such interval, and so with none in the span, both are 0.
   pub none : assigned_span shares d bs ≡ [] → (amount ≡ cents (pos 0)) × (unrounded shares d bs ≡ grains (pos 0))
-
--- The same after an opening and any list of calls.
-abbrev pub RoundingFrom : Opening → List (List ℕ) → ℕ → Cents → Type 0
-RoundingFrom o calls d amount = Rounding (shares_of o) d (accepted o calls) amount

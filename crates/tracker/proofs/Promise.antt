@@ -24,7 +24,7 @@ use Rattle.rules.specs.Residue.{together}
 use Rattle.rules.specs.Record.{grains_in}
 use Rattle.rules.specs.Tracker.{Opening, first_of, shares_of, settings_of, open_of, interval_of, residue_shown, row_of, no_row, row_answer, after, run}
 use Rattle.rules.specs.History.{sum_since, estimate, under_review, lies_in}
-use Rattle.rules.specs.Rounding.{assigned_span, unrounded, Rounding}
+use Rattle.rules.specs.Rounding.{assigned_span, unrounded}
 use Rattle.rules.specs.Claim.{accepted, history, awaited_from, worked_from}
 use Rattle.rules.proofs.Came as rules
 use Rattle.rules.proofs.Replay.{replays}
@@ -39,9 +39,7 @@ pub use Rattle.rules.proofs.Directions.{at_direction}
 pub use Rattle.rules.proofs.AcceptedSettings.{none_given}
 pub use Rattle.rules.proofs.Accepted.{accepted_iff, number_met_lem}
 pub use Rattle.rules.proofs.FirstMet.{Passed, never, untested, pass, refused_at, accepted_past}
-pub use Rattle.rules.proofs.ByClaim.{NoCause, not_without_cause, clamped_at, amount_is}
-use Rattle.rules.proofs.Rounding.{direction_rounding}
-pub use Rattle.rules.proofs.ByRounding.{amount_near, none_assigned, none_in_span}
+pub use Rattle.rules.proofs.ByClaim.{NoCause, not_without_cause, clamped_at, amount_is, amount_near, none_assigned, none_in_span}
 pub use Rattle.rules.proofs.Refusals.{numbers}
 pub use Rattle.rules.proofs.OneCallMore.{refused_longer, accepted_longer, awaits_one_more, shows_awaited, worked_direction}
 use Rattle.tracker.specs.Promise.{Came, OpenPromise, CallAfter, IntervalPromise, RowPromise}
@@ -172,14 +170,9 @@ module _ {t : Tracker} {d : ℕ} {r : RowAnswer} (promise : RowPromise t d r) (o
   pub row_amount : r.row.amount ≡ sum_since es
   row_amount = amount_is (promise.claim o calls q (omega arith))
 
-  -- How far rounding can carry (N9): it differs from the unrounded sum by at most 1,200,000 grains for each interval in the span in which the
-  -- grains were assigned to d, and with none both are 0.
-  pub row_rounding : Rounding (shares_of o) d (accepted o calls) r.row.amount
-  unfolding history
-  row_rounding = subst (Rounding (shares_of o) d (accepted o calls)) (sym row_amount) (direction_rounding (shares_of o) d (accepted o calls))
-
+  -- It differs from the unrounded sum by at most 1,200,000 grains for each interval in the span in which the grains were assigned to d (N9).
   pub row_near : nat_abs ((unrounded (shares_of o) d (accepted o calls)).0 -ℤ pos 2400000 *ℤ r.row.amount.0) ≤ 1200000 * length (assigned_span (shares_of o) d (accepted o calls))
-  row_near = omega (arith, row_rounding.near)
+  row_near = amount_near (promise.claim o calls q (omega arith))
 
 -- Of the rows returned of a corridor's two directions: forward plus reverse cents, with their leftovers, make the corridor's grains in the latest
 -- accepted record b (N8).

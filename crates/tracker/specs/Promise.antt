@@ -1,14 +1,14 @@
 -- What crates above the tracker may cite, and nothing else of it or of the crates that it is made of (with the laws of proofs/Promise): the words
--- of the calls, of demand 3 and of N8's law on a corridor's rows, and what the calls promise by them. (Crate `words`, which reads and writes bytes
--- for all, is no part of it.) What lies under these words is not opened from above: the tests of numbers 4 to 8, 10, 19 and 20, what a record says
--- of a direction (event_of), and what the rules make of its history (state_after).
+-- of the calls, of demand 3 with N9's bound, and of N8's law on a corridor's rows, and what the calls promise by them. (Crate `words`, which reads
+-- and writes bytes for all, is no part of it.) What lies under these words is not opened from above: the tests of numbers 4 to 8, 10, 19 and 20,
+-- what a record says of a direction (event_of), and what the rules make of its history (state_after).
 use Rattle.std.specs.Prelude.{List, [], ◌∷◌, ◌++◌, ◌≡◌, ℕ, ◌<◌}
 -- amounts, flows and parts of a cent
 pub use Rattle.signed.specs.Range.{minus, negative}
 pub use Rattle.units.specs.declared.Cents.{Cents}
 pub use Rattle.units.specs.declared.Hundredths.{Hundredths}
 pub use Rattle.units.specs.declared.Grains.{Grains}
-pub use Rattle.units.specs.Units.{cents, hundredths, grains, ◌+ᶜ◌, ◌+ᵍ◌, in_grains}
+pub use Rattle.units.specs.Units.{cents, hundredths, grains, ◌+ᶜ◌, ◌+ᵍ◌, ◌-ᵍ◌, in_grains}
 -- what the calls take and answer
 pub use Rattle.rules.specs.declared.DirectionSettings.{DirectionSettings}
 pub use Rattle.rules.specs.declared.Settings.{Settings}
@@ -54,13 +54,14 @@ pub use Rattle.rules.specs.Tracker.{residue_shown}
 pub use Rattle.rules.specs.Residue.{together}
 pub use Rattle.rules.specs.Record.{grains_in}
 -- the unrounded sum beside a direction's amount (N9)
+pub use Rattle.rules.specs.Residue.{half_cent}
 pub use Rattle.rules.specs.Rounding.{lower_grains, direction_grains, assigned}
 unfoldable pub use Rattle.rules.specs.Rounding.{span, assigned_of, sum_lower}
-pub use Rattle.rules.specs.Rounding.{assigned_span, unrounded, DifferAtMost, NearFor, Rounding, RoundingFrom}
+pub use Rattle.rules.specs.Rounding.{assigned_span, unrounded, DifferAtMost, NearFor, Rounding}
 -- one value for each of the eight directions
 pub use Rattle.rules.specs.Market.{of_directions}
 -- how large the numbers of a row get
-pub use Rattle.rules.specs.Bounds.{highest_residue, highest_next, highest_sum, half_cent, WithinHalfCent, RowBounds}
+pub use Rattle.rules.specs.Bounds.{highest_residue, highest_next, highest_sum, WithinHalfCent, RowBounds}
 
 -- An opening, with any settings (N2), returns what document 01 says: its number is that of the first condition met, or none. Its tracker is the
 -- run of the empty list, and the claim of that list holds of it.
@@ -85,7 +86,8 @@ pub record IntervalPromise (t : Tracker) (b : List ℕ) (r : Answer) : Type 0 wh
   pub came : Came r.tracker
   pub call : (o : Opening) (calls : List (List ℕ)) → t ≡ run o calls → CallAfter o calls b r
 
--- A row call returns what document 01 says, and demand 3 holds, in all its parts, of the row returned, for every opening and list that led to t.
+-- A row call returns what document 01 says, and demand 3 holds of the row returned, in all its parts, N9's among them, for every opening and list
+-- that led to t.
 pub record RowPromise (t : Tracker) (d : ℕ) (r : RowAnswer) : Type 0 where
   pub is : r ≡ row_answer t d
   pub number : number_of r.outcome ≡ number_met (row_conditions d)
@@ -93,4 +95,4 @@ pub record RowPromise (t : Tracker) (d : ℕ) (r : RowAnswer) : Type 0 where
   pub claim : (o : Opening) (calls : List (List ℕ))
       → t ≡ run o calls
       → d < 8
-      → DirectionClaim (settings_of o) (first_of o) d (history o d (accepted o calls)) (awaited_from o calls) r.row
+      → DirectionClaim o d (accepted o calls) r.row

@@ -5,8 +5,7 @@ use Rattle.tracker.proofs.Promise.{accepted_as_given}
 use Rattle.example.proofs.tried.Goals as goal
 
 pub returns : goal.returns
-returns c ok =
+returns c =
     let o = opening_with c.args.first c.args.shares c.args.settings in
     let one = (c.interval-one.ensures.call o [] c.open_with_settings-opened.ensures.ran).ran in
-    let given = accepted_as_given o ok in
-    rw (given.0, given.2) at (c.row.ensures.claim o (c.args.bytes.now ∷ []) one (omega arith))
+    (c.row.ensures.claim o (c.args.bytes.now ∷ []) one (omega arith), accepted_as_given o)
