@@ -60,7 +60,7 @@ module _ {o : Opening} {d : ℕ} {bs : List (List ℕ)} {r : Row} (claim : Direc
   BothZero = (r.amount ≡ cents (pos 0)) × (unrounded (shares_of o) d bs ≡ grains (pos 0))
 
   pub none_assigned : assigned_of (shares_of o) d (span (shares_of o) d bs) ≡ [] → BothZero
-  none_assigned e = claim.rounding.none e
+  none_assigned e = claim.rounding.both_zero e
 
   pub none_in_span : span (shares_of o) d bs ≡ [] → BothZero
   unfolding assigned_of

@@ -109,5 +109,5 @@ module _ (shares : List ℕ) (d : ℕ) where
     unfolding sum_lower
     direction_rounding = record {
       near = span_near;
-      none = λ e. (ap cents (none_near (sum_since (events bs)) (subst (λ (cs : List (List ℕ)). NearFor (length cs) (sum_since (events bs)) (sum_lower shares d cs)) e span_near)), ap (sum_lower shares d) e);
+      both_zero = λ e. (ap cents (none_near (sum_since (events bs)) (subst (λ (cs : List (List ℕ)). NearFor (length cs) (sum_since (events bs)) (sum_lower shares d cs)) e span_near)), ap (sum_lower shares d) e);
     }

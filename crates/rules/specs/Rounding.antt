@@ -16,11 +16,11 @@ abbrev pub lower_grains : Grains → Grains
 lower_grains g = cond (negative g.0) g (grains (pos 0))
 
 module _ (shares : List ℕ) (d : ℕ) where
-  -- The grains of direction d in a record: those of its corridor, summed over the corridor's lines, whichever direction they were assigned to.
+  -- The grains of direction d in a record are those of its corridor, summed over the corridor's lines. Both its directions have them, and
   abbrev pub direction_grains : List ℕ → Grains
   direction_grains b = grains_in shares b (corridor_of d)
 
-  -- They were assigned to d if the corridor's sum of a gives that direction: zero or more is From_To, less is To_From.
+  -- they were assigned to d if the corridor's sum of a gives that direction: zero or more is From_To, less is To_From.
   abbrev pub assigned : List ℕ → Bool
   assigned b = beq (reverse d) (negative (corridor_flow (prices b) shares (lines b) (corridor_of d)).0)
 
@@ -61,5 +61,5 @@ NearFor k amount sum = DifferAtMost (half_cent * k) amount sum
 pub record Rounding (shares : List ℕ) (d : ℕ) (bs : List (List ℕ)) (amount : Cents) : Type 0 where
   -- the two differ by at most half a cent, 1,200,000 grains, for each interval in the span in which the grains were assigned to d;
   pub near : NearFor (length (assigned_span shares d bs)) amount (unrounded shares d bs)
-  -- with no such interval, and so with none in the span, both are 0.
-  pub none : assigned_span shares d bs ≡ [] → (amount ≡ cents (pos 0)) × (unrounded shares d bs ≡ grains (pos 0))
+  -- with no such interval (if the span has none at all, in particular) both are 0.
+  pub both_zero : assigned_span shares d bs ≡ [] → (amount ≡ cents (pos 0)) × (unrounded shares d bs ≡ grains (pos 0))

@@ -1,7 +1,7 @@
 -- What crates above the tracker may cite, and nothing else of it or of the crates that it is made of (with the laws of proofs/Promise): the words
 -- of the calls, of demand 3 with N9's bound, and of N8's law on a corridor's rows, and what the calls promise by them. (Crate `words`, which reads
 -- and writes bytes for all, is no part of it.) What lies under these words is not opened from above: the tests of numbers 4 to 8, 10, 19 and 20,
--- what a record says of a direction (event_of), and what the rules make of its history (state_after).
+-- what a record says of a direction or a corridor (event_of, grains_in), and what the rules make of its history (state_after).
 use Rattle.std.specs.Prelude.{List, [], ◌∷◌, ◌++◌, ◌≡◌, ℕ, ◌<◌}
 -- amounts, flows and parts of a cent
 pub use Rattle.signed.specs.Range.{minus, negative}
