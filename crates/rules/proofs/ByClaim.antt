@@ -26,28 +26,20 @@ NoCause set es = (i : ℕ) → i < 12 → i < length es → T (got_there set (dr
 
 -- Of an opening, a direction, the accepted records and a row r of which the five parts hold:
 module _ {o : Opening} {d : ℕ} {bs : List (List ℕ)} {r : Row} (claim : DirectionClaim o d bs r) where
-  -- the settings, the direction's history and the awaited number
-  abbrev set : Settings
-  set = settings_of o
-
-  abbrev es : List Event
-  es = history o d bs
-
-  abbrev a : ℕ
-  a = awaited_after o bs
-
   -- with no cause in the last twelve the next interval does not lie in the row's period;
-  pub not_without_cause : NoCause set es → T (not (lies_in a r.period))
-  not_without_cause no-cause = not_T (lies_in a r.period) (λ inside.
+  pub not_without_cause : NoCause (settings_of o) (history o d bs) → T (not (lies_in (awaited_after o bs) r.period))
+  not_without_cause no-cause = not_T (lies_in (awaited_after o bs) r.period) (λ inside.
       let cause = claim.caused inside in
       no-cause cause.ago (omega (arith, cause.recent)) cause.accepted cause.got cause.unreviewed)
 
   -- at the threshold or less, and not under review, it lies in it;
-  pub clamped_at : T (le_z ((sum_since es).0 +ℤ (estimate es).0) set.threshold.0) → T (not (under_review es)) → T (lies_in a r.period)
+  pub clamped_at : T (le_z ((sum_since (history o d bs)).0 +ℤ (estimate (history o d bs)).0) (settings_of o).threshold.0)
+      → T (not (under_review (history o d bs)))
+      → T (lies_in (awaited_after o bs) r.period)
   clamped_at low unreviewed = claim.clamped low unreviewed
 
   -- the row's amount is the sum;
-  pub amount_is : r.amount ≡ sum_since es
+  pub amount_is : r.amount ≡ sum_since (history o d bs)
   amount_is = claim.sum
 
   -- with 2,400,000 grains for each of its cents it differs from the unrounded sum by at most 1,200,000 for each interval in the span in which the

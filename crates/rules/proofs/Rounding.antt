@@ -18,7 +18,7 @@ use Rattle.rules.specs.Market.{corridor_of, reverse}
 use Rattle.rules.specs.Residue.{rounded, in_cents, corridor_residue, residue_of}
 use Rattle.rules.specs.History.{clearing, since_clearing, sum_negative, sum_since}
 use Rattle.rules.specs.Record.{prices, lines, event_of}
-use Rattle.rules.specs.Rounding.{lower_grains, direction_grains, assigned, span, assigned_of, sum_lower, assigned_span, unrounded, DifferAtMost, NearFor, Rounding}
+use Rattle.rules.specs.Rounding.{lower_grains, direction_grains, assigned_to, span, assigned_of, sum_lower, assigned_span, unrounded, DifferAtMost, NearFor, Rounding}
 use Rattle.rules.proofs.CentsAndGrains.{leftover_within}
 use Rattle.rules.proofs.SumInvariant.{low}
 use Rattle.rules.proofs.OneDirection.{sum_grows}
@@ -61,7 +61,7 @@ module _ (shares : List ℕ) (d : ℕ) where
   events bs = map (event_of shares d) bs
 
   -- A direction's residue is its grains, rounded, where they were assigned to it, and else 0.
-  pub residue_assigned : (b : List ℕ) → (event_of shares d b).residue ≡ cond (assigned shares d b) (rounded (direction_grains shares d b)) (cents (pos 0))
+  pub residue_assigned : (b : List ℕ) → (event_of shares d b).residue ≡ cond (assigned_to shares d b) (rounded (direction_grains shares d b)) (cents (pos 0))
   unfolding residue_of event_of
   residue_assigned b = cents_of (beq (reverse d) (corridor_residue (prices b) shares (lines b) (corridor_of d)).reverse) _ _
 
@@ -87,7 +87,7 @@ module _ (shares : List ℕ) (d : ℕ) where
   sum_near [] = nothing_near
   sum_near (b ∷ bs) =
       rw (sum_grows (event_of shares d b) (events bs), residue_assigned b)
-      (longer_near b (assigned_of shares d bs) (sum_negative (events bs)) (assigned shares d b) (sum_near bs))
+      (longer_near b (assigned_of shares d bs) (sum_negative (events bs)) (assigned_to shares d b) (sum_near bs))
 
   -- ---- the span
   -- Its intervals are those whose negative residues demand 3's sum adds.

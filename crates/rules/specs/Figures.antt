@@ -88,16 +88,16 @@ abbrev pub metered1 : ℕ → ℕ → ℤ → List (List ℕ)
 metered1 first zero p = []
 metered1 first (suc k) p = one_line first p (pos 1) ∷ metered1 (suc first) k p
 
--- What N9 compares, of one direction: its row's amount, the unrounded sum, the number of intervals in the span, and in how many of them the
--- grains were assigned to it.
+-- What N9 compares, of one direction: its row's amount, the unrounded sum, the number of intervals in the span, and how many of them count: those
+-- in which the grains were assigned to it.
 pub record Compared : Type 0 where
   pub amount : Cents
   pub unrounded : Grains
   pub intervals : ℕ
-  pub assigned : ℕ
+  pub counted : ℕ
 
 abbrev pub comparing : ℤ → ℤ → ℕ → ℕ → Compared
-comparing amount sum intervals assigned = record { amount = cents amount; unrounded = grains sum; intervals = intervals; assigned = assigned }
+comparing amount sum intervals counted = record { amount = cents amount; unrounded = grains sum; intervals = intervals; counted = counted }
 
 -- Of direction d of a tracker t that the accepted records bs left; and after any list of calls.
 abbrev pub compared_at : List ℕ → Tracker → List (List ℕ) → ℕ → Compared
@@ -105,7 +105,7 @@ compared_at shares t bs d = record {
   amount = (row_answer t d).row.amount;
   unrounded = unrounded shares d bs;
   intervals = length (span shares d bs);
-  assigned = length (assigned_span shares d bs);
+  counted = length (assigned_span shares d bs);
 }
 
 abbrev pub compared : Opening → List (List ℕ) → ℕ → Compared

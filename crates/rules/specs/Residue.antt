@@ -31,7 +31,7 @@ abbrev pub with_sign : ℤ → ℕ → ℤ
 with_sign (pos z) n = pos n
 with_sign (negsuc z) n = minus n
 
--- Half a cent, in grains (N8, N9).
+-- Half a cent, in grains: of it N8 and N9 make their bounds. The rounding that they bound has its own numbers.
 abbrev pub half_cent : ℕ
 half_cent = 1200000
 

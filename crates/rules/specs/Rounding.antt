@@ -16,13 +16,13 @@ abbrev pub lower_grains : Grains → Grains
 lower_grains g = cond (negative g.0) g (grains (pos 0))
 
 module _ (shares : List ℕ) (d : ℕ) where
-  -- The grains of direction d in a record are those of its corridor, summed over the corridor's lines. Both its directions have them, and
+  -- The grains of direction d in a record are those of its corridor, summed over the corridor's lines: both directions of a corridor have the same.
   abbrev pub direction_grains : List ℕ → Grains
   direction_grains b = grains_in shares b (corridor_of d)
 
-  -- they were assigned to d if the corridor's sum of a gives that direction: zero or more is From_To, less is To_From.
-  abbrev pub assigned : List ℕ → Bool
-  assigned b = beq (reverse d) (negative (corridor_flow (prices b) shares (lines b) (corridor_of d)).0)
+  -- In a record the grains were assigned to d if the corridor's sum of a gives that direction: zero or more is From_To, less is To_From.
+  abbrev pub assigned_to : List ℕ → Bool
+  assigned_to b = beq (reverse d) (negative (corridor_flow (prices b) shares (lines b) (corridor_of d)).0)
 
   -- The span: each accepted interval after d's latest clearing interval; all of them, if none cleared. Which interval clears is read from the
   -- rounded residues.
@@ -30,12 +30,12 @@ module _ (shares : List ℕ) (d : ℕ) where
   span [] = []
   span (b ∷ bs) = cond (clearing (map (event_of shares d) (b ∷ bs))) [] (b ∷ span bs)
 
-  -- Of some intervals: those in which the grains were assigned to d,
+  -- Of some intervals those in which the grains were assigned to d.
   unfoldable pub assigned_of : List (List ℕ) → List (List ℕ)
   assigned_of [] = []
-  assigned_of (b ∷ bs) = cond (assigned b) (b ∷ assigned_of bs) (assigned_of bs)
+  assigned_of (b ∷ bs) = cond (assigned_to b) (b ∷ assigned_of bs) (assigned_of bs)
 
-  -- and the lower of grains and 0 in each, added up.
+  -- The lower of grains and 0 in each of some intervals, added up.
   unfoldable pub sum_lower : List (List ℕ) → Grains
   sum_lower [] = grains (pos 0)
   sum_lower (b ∷ bs) = sum_lower bs +ᵍ lower_grains (direction_grains b)
@@ -49,17 +49,17 @@ module _ (shares : List ℕ) (d : ℕ) where
   abbrev pub unrounded : List (List ℕ) → Grains
   unrounded bs = sum_lower (assigned_span bs)
 
--- An amount, in grains, and a sum of grains differ by at most n;
+-- An amount, in grains, and a sum of grains differ by at most n.
 abbrev pub DifferAtMost : ℕ → Cents → Grains → Type 0
 DifferAtMost n amount sum = nat_abs (sum -ᵍ in_grains amount).0 ≤ n
 
--- by at most half a cent, 1,200,000 grains, for each of k intervals.
+-- They differ by at most half a cent, 1,200,000 grains, for each of k intervals.
 abbrev pub NearFor : ℕ → Cents → Grains → Type 0
 NearFor k amount sum = DifferAtMost (half_cent * k) amount sum
 
 -- Of a direction's amount after the accepted records bs:
 pub record Rounding (shares : List ℕ) (d : ℕ) (bs : List (List ℕ)) (amount : Cents) : Type 0 where
-  -- the two differ by at most half a cent, 1,200,000 grains, for each interval in the span in which the grains were assigned to d;
+  -- It and the unrounded sum differ by at most half a cent, 1,200,000 grains, for each interval in the span in which the grains were assigned to d.
   pub near : NearFor (length (assigned_span shares d bs)) amount (unrounded shares d bs)
-  -- with no such interval (if the span has none at all, in particular) both are 0.
+  -- With no such interval (if the span has none at all, in particular) both are 0.
   pub both_zero : assigned_span shares d bs ≡ [] → (amount ≡ cents (pos 0)) × (unrounded shares d bs ≡ grains (pos 0))

@@ -55,7 +55,7 @@ pub use Rattle.rules.specs.Residue.{together}
 pub use Rattle.rules.specs.Record.{grains_in}
 -- the unrounded sum beside a direction's amount (N9)
 pub use Rattle.rules.specs.Residue.{half_cent}
-pub use Rattle.rules.specs.Rounding.{lower_grains, direction_grains, assigned}
+pub use Rattle.rules.specs.Rounding.{lower_grains, direction_grains, assigned_to}
 unfoldable pub use Rattle.rules.specs.Rounding.{span, assigned_of, sum_lower}
 pub use Rattle.rules.specs.Rounding.{assigned_span, unrounded, DifferAtMost, NearFor, Rounding}
 -- one value for each of the eight directions
