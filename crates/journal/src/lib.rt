@@ -11,7 +11,7 @@ ghost use Rattle.tracker.specs.Promise.{record_number, issue};
 ghost use Rattle.words.specs.Buffer.{Puts};
 ghost use Rattle.journal_rules.specs.Journal.{trailer_length, first_number, last_number, follows, in_order, count, distance, first, last, holding, bad_length, bad_trailer, bad_numbers, bad_records, records_of, journal_of};
 ghost use Rattle.journal_rules.specs.Survivors.{survivors};
-ghost use Rattle.journal_rules.specs.Internal.{records_in, last_records, counted_records, issued_next, last_of_each, Whole};
+ghost use Rattle.journal_rules.specs.Internal.{records_in, last_records, counted_records, issued_again, last_of_each, Whole};
 ghost use Rattle.journal_rules.specs.Promise.{ReadPromise, SurvivorsPromise, WritePromise};
 
 use journal_rules::Contents;
@@ -187,7 +187,7 @@ pub fn records(journal: &[u8]) -> &[u8]
 // Is a record issued again: has the first of those after it the same n? In records that are in order just the superseded ones are, so that the
 // next record tells, and no other need be looked at.
 fn issued_again(bytes: &RecordBytes, others: &[RecordBytes]) -> bool
-    ensures { result ≡ issued_next bytes.now others.now }
+    ensures { result ≡ issued_again bytes.now others.now }
 {
     match others {
         [] => false,

@@ -7,12 +7,11 @@ use mathlib.Core.List.{List}
 use Prim.Native.Nat.{ℕ, zero, suc, ◌+◌, ◌-◌, ◌<◌, ◌≤◌}
 use native.Mathlib.Numerals.{add-one}
 use native.Mathlib.Omega.{arith}
-use borrow.Author.Tests.{ltb-true, ltb-false, eqb-true, eqb-false, lt-ltb, le-ltb, eq-eqb, ne_eqb, not-false}
+use borrow.Author.Tests.{ltb-true, ltb-false, eqb-true, eqb-false, lt-ltb, le-ltb, eq-eqb, ne_eqb}
 use lib.Dec.{eqb, ltb}
-use Rattle.tracker.proofs.Promise.{both_true, below_or_last, each_at, each_by, each_fails}
+use Rattle.tracker.proofs.Promise.{below_or_last, each_at, each_by, each_fails}
 use Rattle.journal_rules.specs.Journal.{record_count, number_at, issue_at, follows, followed_at, in_order}
 use Rattle.journal_rules.specs.Survivors.{supersedes, survives}
-use Rattle.journal_rules.specs.Internal.{issued_again}
 
 -- ---- what `follows` says
 -- 0 is not the next n after the highest, under any issue.
@@ -133,28 +132,16 @@ module _ (r : List ℕ) (order : in_order r ≡ true) where
             let z : eqb (number_at r j) (number_at r i) ≡ false = ne_eqb (number_at r j) (number_at r i) (λ q. omega arith) in
             rw z
 
-    last_of_number : (i + 1 < record_count r → number_at r (i + 1) ≡ number_at r i → ⊥) → survives r i ≡ true
+    pub last_of_number : (i + 1 < record_count r → number_at r (i + 1) ≡ number_at r i → ⊥) → survives r i ≡ true
     unfolding survives
     last_of_number other = each_by (λ j. not (supersedes r j i)) (record_count r) (stays other)
 
-    followed_in_number : i + 1 < record_count r → number_at r (i + 1) ≡ number_at r i → survives r i ≡ false
+    pub followed_in_number : i + 1 < record_count r → number_at r (i + 1) ≡ number_at r i → survives r i ≡ false
     unfolding survives
     followed_in_number k q =
         let up = higher (number_at r i) (issue_at r i) (number_at r (i + 1)) (issue_at r (i + 1)) (step i k) q in
         let gone : not (supersedes r (i + 1) i) ≡ false = rw (eq-eqb (number_at r (i + 1)) (number_at r i) q, lt-ltb (issue_at r i) (issue_at r (i + 1)) up) in
         each_fails (λ j. not (supersedes r j i)) (record_count r) (i + 1) k gone
-
-    -- The record of highest issue is the last of its n: it survives exactly if it is not issued again.
-    pub next_tells : survives r i ≡ not (issued_again r i)
-    next_tells = go (ltb (i + 1) (record_count r)) (eqb (number_at r (i + 1)) (number_at r i)) refl refl
-      where
-        go : (more same : Bool)
-            → ltb (i + 1) (record_count r) ≡ more
-            → eqb (number_at r (i + 1)) (number_at r i) ≡ same
-            → survives r i ≡ not (issued_again r i)
-        go true true e q = rw (e, q) (followed_in_number (ltb-true (i + 1) (record_count r) e) (eqb-true (number_at r (i + 1)) (number_at r i) q))
-        go true false e q = rw (e, q) (last_of_number (λ k. eqb-false (number_at r (i + 1)) (number_at r i) q))
-        go false same e q = rw e (last_of_number (λ k. absurd (omega (arith, ltb-false (i + 1) (record_count r) e))))
 
     -- so after a survivor comes the next n,
     pub next_number_lem : survives r i ≡ true → i + 1 < record_count r → number_at r (i + 1) ≡ number_at r i + 1
@@ -164,6 +151,15 @@ module _ (r : List ℕ) (order : in_order r ≡ true) where
 
     -- and after a superseded record one of its n
     pub same_number : survives r i ≡ false → (i + 1 < record_count r) × (number_at r (i + 1) ≡ number_at r i)
-    same_number gone =
-        let again = both_true (ltb (i + 1) (record_count r)) (eqb (number_at r (i + 1)) (number_at r i)) (not-false (issued_again r i) (sym next_tells ∙ gone)) in
-        (ltb-true (i + 1) (record_count r) again.0, eqb-true (number_at r (i + 1)) (number_at r i) again.1)
+    same_number gone = go (ltb (i + 1) (record_count r)) (eqb (number_at r (i + 1)) (number_at r i)) refl refl
+      where
+        survives_not : (i + 1 < record_count r → number_at r (i + 1) ≡ number_at r i → ⊥) → ⊥
+        survives_not other = false≢true (sym gone ∙ last_of_number other)
+
+        go : (more same : Bool)
+            → ltb (i + 1) (record_count r) ≡ more
+            → eqb (number_at r (i + 1)) (number_at r i) ≡ same
+            → (i + 1 < record_count r) × (number_at r (i + 1) ≡ number_at r i)
+        go true true e q = (ltb-true (i + 1) (record_count r) e, eqb-true (number_at r (i + 1)) (number_at r i) q)
+        go true false e q = absurd (survives_not (λ k. eqb-false (number_at r (i + 1)) (number_at r i) q))
+        go false same e q = absurd (survives_not (λ k. absurd (omega (arith, ltb-false (i + 1) (record_count r) e))))

@@ -16,8 +16,7 @@ use Rattle.tracker.specs.Promise.{byte_at, record_number, issue}
 use Rattle.tracker.proofs.Promise.{each_at}
 use Rattle.journal_rules.specs.Journal.{u32_at, record_length, record_count, number_at, issue_at, first_number, in_order}
 use Rattle.journal_rules.specs.Survivors.{record_at, supersedes, survives, survivors_from, survivors, HighestOfEach}
-use Rattle.journal_rules.specs.Internal.{issued_again}
-use Rattle.journal_rules.proofs.Order.{one_place, no_lower, next_tells, next_number_lem, same_number}
+use Rattle.journal_rules.proofs.Order.{one_place, no_lower, next_number_lem, same_number}
 
 -- ---- a record taken out
 pub record_length_lem : (r : List ℕ) (i : ℕ) → i < record_count r → length (record_at r i) ≡ record_length
@@ -221,11 +220,3 @@ module _ (r : List ℕ) (order : in_order r ≡ true) where
       let short = all_below (length w) (length (survivors r)) (no_longer a b) in
       let long = all_below (length (survivors r)) (length w) (no_longer b a) in
       ext_get_or [] w (survivors r) (omega arith) (same_record a b)
-
--- ---- laws of records in order of which those that are issued again are left out
-module _ (r : List ℕ) (order : in_order r ≡ true) (i : ℕ) (h : i < record_count r) where
-  pub again : issued_again r i ≡ true → rest r i ≡ rest r (i + 1)
-  again e = passed_over r i h (next_tells r order i h ∙ ap not e)
-
-  pub not_again : issued_again r i ≡ false → rest r i ≡ record_at r i ∷ rest r (i + 1)
-  not_again e = kept r i h (next_tells r order i h ∙ ap not e)

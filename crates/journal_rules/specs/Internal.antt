@@ -1,10 +1,10 @@
 -- A trailer that points at records inside the journal, the records by what a read gave and one by one, a record that is issued again (N7), and
 -- at most 288 whole records. No promise cites this.
-use Rattle.std.specs.Prelude.{◌≡◌, Bool, false, not, cond, ◌&&◌, List, [], ◌∷◌, ◌++◌, ℕ, Result, Ok, Err, ◌+◌, ◌*◌, ◌-◌, ◌%◌, ◌≤◌, eqb, ltb, length, take, drop}
+use Rattle.std.specs.Prelude.{◌≡◌, Bool, false, not, cond, List, [], ◌∷◌, ◌++◌, ℕ, Result, Ok, Err, ◌+◌, ◌*◌, ◌-◌, ◌%◌, ◌≤◌, eqb, ltb, length, take, drop}
 use Rattle.std.specs.Simd.{first_chunks}
 use Rattle.tracker.specs.Promise.{record_number}
 use Rattle.journal_rules.specs.declared.Contents.{Contents}
-use Rattle.journal_rules.specs.Journal.{Refusal, record_length, most_records, trailer_length, record_count, number_at, count, distance}
+use Rattle.journal_rules.specs.Journal.{Refusal, record_length, most_records, trailer_length, record_count, count, distance}
 
 -- the trailer points at records that are inside
 pub record Shaped (s : List ℕ) : Type 0 where
@@ -28,20 +28,17 @@ counted_records (Err why) s = []
 abbrev pub records_in : List ℕ → List (List ℕ)
 records_in r = first_chunks record_length (record_count r) r
 
--- Record i is issued again: the next one has the same n. In records that are in order this says that it is superseded (proofs/Order
--- `next_tells`).
-abbrev pub issued_again : List ℕ → ℕ → Bool
-issued_again r i = ltb (i + 1) (record_count r) && eqb (number_at r (i + 1)) (number_at r i)
+-- A record is issued again if the first of those behind it has the same n. In records that are in order this says that it is superseded
+-- (proofs/OneByOne `next_tells`).
+abbrev pub issued_again : List ℕ → List (List ℕ) → Bool
+issued_again b [] = false
+issued_again b (next ∷ bs) = eqb (record_number next) (record_number b)
 
--- Of records one by one those that the next one does not supersede, each the last of its n. In records that are in order these are the survivors
+-- Of records one by one those that are not issued again, each the last of its n. In records that are in order these are the survivors
 -- (proofs/OneByOne `last_survive`).
-abbrev pub issued_next : List ℕ → List (List ℕ) → Bool
-issued_next b [] = false
-issued_next b (next ∷ bs) = eqb (record_number next) (record_number b)
-
 abbrev pub last_of_each : List (List ℕ) → List (List ℕ)
 last_of_each [] = []
-last_of_each (b ∷ bs) = cond (not (issued_next b bs)) (b ∷ []) [] ++ last_of_each bs
+last_of_each (b ∷ bs) = cond (not (issued_again b bs)) (b ∷ []) [] ++ last_of_each bs
 
 -- at most 288 whole records
 pub record Whole (r : List ℕ) : Type 0 where

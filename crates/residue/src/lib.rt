@@ -96,7 +96,7 @@ fn in_cents(g: Grains) -> Residue
 }
 
 // Grains and flow are summed over the corridor's lines first, so that the residue is rounded once. A corridor has its lines by number, and each
-// number picks from two arrays: `shares.iter().zip(&lines).skip(at.first).take(at.lines)` is no plainer, and leaves more to prove.
+// number picks from two arrays: with `shares.iter().zip(&lines).skip(at.first).take(at.lines)` the same would be said no more plainly.
 // Prices, shares and lines go together into this function and `residues` alone.
 fn corridor(prices: [Cents; 4], shares: [u16; 6], lines: [Line; 6], c: usize) -> CorridorResidue
     requires { (c < 4) × InRange prices shares lines }
