@@ -3,7 +3,7 @@
 
 #![tactic(auto)]
 
-ghost use Rattle.std.specs.Prelude.{◌≡◌, ◌<◌, ◌≤◌, length, slice_range, IfOk, MatchOption};
+ghost use Rattle.std.specs.Prelude.{◌≡◌, ◌<◌, length, slice_range, IfOk, MatchOption};
 ghost use Rattle.tracker.specs.Promise.{Came};
 ghost use Rattle.calls.specs.Internal.{call_words, word_of, part_end};
 

@@ -1,4 +1,4 @@
--- Records one by one are those that stand end to end.
+-- Records one by one are those that stand end to end; of records in order, those that are not issued again are the survivors.
 -- Assumes nothing.
 use Rattle.std.proofs.Common.{◌≡◌, refl, ap, ◌∙◌, Bool, true, false, not, ℕ, zero, suc, ◌+◌, ◌*◌, ◌<◌, add-one, List, [], ◌∷◌, length, get_or, take, drop, drop-drop, arith}
 use borrow.Author.Tests.{eqb-true, eqb-false}

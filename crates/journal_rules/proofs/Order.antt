@@ -143,13 +143,13 @@ module _ (r : List ℕ) (order : in_order r ≡ true) where
         let gone : not (supersedes r (i + 1) i) ≡ false = rw (eq-eqb (number_at r (i + 1)) (number_at r i) q, lt-ltb (issue_at r i) (issue_at r (i + 1)) up) in
         each_fails (λ j. not (supersedes r j i)) (record_count r) (i + 1) k gone
 
-    -- so after a survivor comes the next n,
+    -- After a survivor comes the next n.
     pub next_number_lem : survives r i ≡ true → i + 1 < record_count r → number_at r (i + 1) ≡ number_at r i + 1
     next_number_lem lives k =
         one_more (number_at r i) (issue_at r i) (number_at r (i + 1)) (issue_at r (i + 1)) (step i k)
         (λ q. false≢true (sym (followed_in_number k q) ∙ lives))
 
-    -- and after a superseded record one of its n
+    -- After a superseded record comes one of its n.
     pub same_number : survives r i ≡ false → (i + 1 < record_count r) × (number_at r (i + 1) ≡ number_at r i)
     same_number gone = go (ltb (i + 1) (record_count r)) (eqb (number_at r (i + 1)) (number_at r i)) refl refl
       where

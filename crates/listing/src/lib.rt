@@ -3,17 +3,16 @@
 
 #![tactic(auto)]
 
-ghost use Rattle.std.specs.Prelude.{true, slice_index_or, ◌≡◌, ℕ, ◌+◌, ◌<◌, ◌≤◌, length, take, IfOk, OnOk, IfSome};
+ghost use Rattle.std.specs.Prelude.{true, slice_index_or, ◌≡◌, ◌+◌, ◌<◌, ◌≤◌, length, take, IfOk, OnOk, IfSome};
 ghost use mathlib.Core.List.{[], flatten, map};
 ghost use Rattle.std.specs.Io.{ReadsAtMost};
 ghost use Rattle.std.specs.Io.KnownBytes.{Appends, Consumes, IsAtEnd};
 ghost use Rattle.words.specs.Buffer.{over, put_before, Puts};
 ghost use Rattle.text.specs.Ascii.{ascii};
-ghost use Rattle.text.specs.Text.{number_cell};
 ghost use Rattle.tracker.specs.Promise.{Came, RowBounds, number};
 ghost use Rattle.journal_rules.specs.Journal.{in_order};
 ghost use Rattle.journal_rules.specs.Survivors.{survivors};
-ghost use Rattle.listing.specs.Line.{names, comma, mark, name_of, amounts_of, line_of, listed_of};
+ghost use Rattle.listing.specs.Line.{names, name_of, amounts_of, line_of, listed_of};
 ghost use Rattle.listing.specs.Internal.{row_text, rows_text};
 ghost use Rattle.listing.specs.Listing.{ended_by, opened_lines, record_lines, body_lines, input_lines, listing_of, listing_in, longest_listing, IsPrefixLen};
 

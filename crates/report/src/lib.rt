@@ -3,7 +3,7 @@
 
 #![tactic(auto)]
 
-ghost use Rattle.std.specs.Prelude.{ℕ, ◌≡◌, ◌*◌, ◌<◌, ◌≤◌, nat_abs, length, Ok, IfOk};
+ghost use Rattle.std.specs.Prelude.{◌≡◌, ◌*◌, ◌<◌, ◌≤◌, nat_abs, length, Ok, IfOk};
 ghost use Rattle.tracker.specs.Promise.{Answer, Row, Came, RowBounds, highest_sum, notice_number};
 ghost use Rattle.words.specs.Internal.{IsI32};
 ghost use Rattle.journal_rules.specs.declared.Contents.{Contents};

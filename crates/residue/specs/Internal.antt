@@ -1,15 +1,11 @@
--- What the functions of this crate are asked, in ranges wide enough for an interval and for a pre-dispatch half-hour, and what they give where the
--- rules have no name for it. No promise cites this.
-use Rattle.std.specs.Prelude.{List, ◌≡◌, ℕ, ◌+◌, ◌*◌, ◌≤◌, ◌<◌, pos, nat_abs, get_or, Bool, cond}
+-- What the functions of this crate are asked, in ranges wide enough for an interval and for a pre-dispatch half-hour. No promise cites this.
+use Rattle.std.specs.Prelude.{List, ◌≡◌, ℕ, ◌+◌, ◌*◌, ◌≤◌, ◌<◌, pos, nat_abs, get_or}
 use Rattle.units.specs.declared.Cents.{Cents}
 use Rattle.units.specs.Units.{cents}
 use Rattle.rules.specs.declared.Corridor.{Corridor}
 use Rattle.rules.specs.declared.Line.{Line}
 use Rattle.rules.specs.Market.{region_number, corridor}
-use Rattle.rules.specs.Residue.{line, no_residue}
-use Rattle.std.specs.Bool.{beq}
-use Rattle.rules.specs.declared.CorridorResidue.{CorridorResidue}
-use Rattle.rules.specs.declared.Residue.{Residue}
+use Rattle.rules.specs.Residue.{line}
 
 -- A corridor's regions are among the four; it has at most two of the six physical interconnectors.
 pub record IsCorridor (c : ℕ) (r : Corridor) : Type 0 where
@@ -51,7 +47,3 @@ pub record InRange (prices : List Cents) (shares : List ℕ) (lines : List Line)
   pub share : (i : ℕ) → get_or shares i 0 ≤ 1000
   pub flow : (i : ℕ) → nat_abs (line prices shares lines i).a.0 ≤ highest_a
   pub losses : (i : ℕ) → nat_abs (line prices shares lines i).b.0 ≤ highest_b
-
--- a corridor's residue as its From_To (false) or To_From (true) direction has it
-abbrev pub assigned : Bool → CorridorResidue → Residue
-assigned reverse r = cond (beq reverse r.reverse) r.residue no_residue

@@ -6,9 +6,9 @@
 ghost use Rattle.std.specs.Prelude.{[], ◌≡◌, ℕ, ◌<◌, ◌≤◌, pos, nat_abs, get_or, is_some, unwrap_or};
 ghost use Rattle.units.specs.Units.{cents};
 ghost use Rattle.rules.specs.Bounds.{highest_next};
-ghost use Rattle.rules.specs.Residue.{grains_of, rounded, in_cents, no_residue, price, corridor_residue, residue_of};
+ghost use Rattle.rules.specs.Residue.{grains_of, rounded, in_cents, no_residue, price, corridor_residue, residue_of, along};
 ghost use Rattle.rules.specs.Interval.{loop_sum, flag_of, next_of};
-ghost use Rattle.residue.specs.Internal.{IsCorridor, LineInRange, InRange, highest_corridor_grains, assigned};
+ghost use Rattle.residue.specs.Internal.{IsCorridor, LineInRange, InRange, highest_corridor_grains};
 ghost use Rattle.rules.specs.Market.{of_directions};
 
 use rules::{Corridor, CorridorResidue, Line, Region, Residue};
@@ -119,7 +119,7 @@ fn corridor(prices: [Cents; 4], shares: [u16; 6], lines: [Line; 6], c: usize) ->
 
 // A direction has its corridor's residue, with the leftover, if the flow is that way, else 0.
 fn along(r: CorridorResidue, reverse: bool) -> Residue
-    ensures { result ≡ assigned reverse r }
+    ensures { result ≡ along reverse r }
 {
     if reverse == r.reverse {
         r.residue

@@ -24,36 +24,38 @@ use Rattle.rules.specs.Claim.{awaited_after, accepted, history, worked_row, awai
 abbrev pub NoCause : Settings → List Event → Type 0
 NoCause set es = (i : ℕ) → i < 12 → i < length es → T (got_there set (drop i es)) → T (not (under_review (drop i es))) → ⊥
 
--- Of an opening, a direction, the accepted records and a row r of which the five parts hold:
+-- What follows of a row r of which the five parts hold, after an opening o and the accepted records bs, in direction d.
 module _ {o : Opening} {d : ℕ} {bs : List (List ℕ)} {r : Row} (claim : DirectionClaim o d bs r) where
-  -- with no cause in the last twelve the next interval does not lie in the row's period;
+  -- With no cause in the last twelve the next interval does not lie in the row's period.
   pub not_without_cause : NoCause (settings_of o) (history o d bs) → T (not (lies_in (awaited_after o bs) r.period))
   not_without_cause no-cause = not_T (lies_in (awaited_after o bs) r.period) (λ inside.
       let cause = claim.caused inside in
       no-cause cause.ago (omega (arith, cause.recent)) cause.accepted cause.got cause.unreviewed)
 
-  -- at the threshold or less, and not under review, it lies in it;
+  -- At the threshold or less, and not under review, the next interval lies in the row's period.
   pub clamped_at : T (le_z ((sum_since (history o d bs)).0 +ℤ (estimate (history o d bs)).0) (settings_of o).threshold.0)
       → T (not (under_review (history o d bs)))
       → T (lies_in (awaited_after o bs) r.period)
   clamped_at low unreviewed = claim.clamped low unreviewed
 
-  -- the row's amount is the sum;
+  -- The row's amount is the sum.
   pub amount_is : r.amount ≡ sum_since (history o d bs)
   amount_is = claim.sum
 
-  -- with 2,400,000 grains for each of its cents it differs from the unrounded sum by at most 1,200,000 for each interval in the span in which the
-  -- grains were assigned to the direction (N9);
-  pub amount_near : nat_abs ((unrounded (shares_of o) d bs).0 -ℤ pos 2400000 *ℤ r.amount.0) ≤ 1200000 * length (assigned_of (shares_of o) d (span (shares_of o) d bs))
+  -- With 2,400,000 grains for each of its cents the row's amount differs from the unrounded sum by at most 1,200,000 for each interval in the span in
+  -- which the grains were assigned to the direction (N9).
+  pub amount_near : nat_abs ((unrounded (shares_of o) d bs).0 -ℤ pos 2400000 *ℤ r.amount.0) ≤ 1200000 * length (assigned_span (shares_of o) d bs)
   amount_near = omega (arith, claim.rounding.near)
 
-  -- and with none of those, so too with no interval in the span, both are 0.
+  -- The row's amount and the unrounded sum are 0.
   abbrev BothZero : Type 0
   BothZero = (r.amount ≡ cents (pos 0)) × (unrounded (shares_of o) d bs ≡ grains (pos 0))
 
-  pub none_assigned : assigned_of (shares_of o) d (span (shares_of o) d bs) ≡ [] → BothZero
+  -- They are so with no interval in the span in which the grains were assigned to the direction.
+  pub none_assigned : assigned_span (shares_of o) d bs ≡ [] → BothZero
   none_assigned e = claim.rounding.both_zero e
 
+  -- They are so with no interval in the span at all.
   pub none_in_span : span (shares_of o) d bs ≡ [] → BothZero
   unfolding assigned_of
   none_in_span e = none_assigned (ap (assigned_of (shares_of o) d) e)
@@ -69,15 +71,15 @@ module _ (o : Opening) (calls : List (List ℕ)) (t : Tracker) (claim : Claim o 
   of_direction : DirectionClaim o d (accepted o calls) its_row
   of_direction = claim.each d (omega arith)
 
-  -- With no cause in the last twelve the next interval does not lie in the row's period;
+  -- With no cause in the last twelve the next interval does not lie in the row's period.
   pub tracker_not_without_cause : NoCause (settings_of o) own → T (not (lies_in (awaited_from o calls) its_row.period))
   tracker_not_without_cause = not_without_cause of_direction
 
-  -- at the threshold or less, and not under review, it lies in it;
+  -- At the threshold or less, and not under review, the next interval lies in the row's period.
   pub tracker_clamped_at : T (le_z ((sum_since own).0 +ℤ (estimate own).0) (settings_of o).threshold.0) → T (not (under_review own)) → T (lies_in (awaited_from o calls) its_row.period)
   tracker_clamped_at = clamped_at of_direction
 
-  -- and its amount is as near the unrounded sum as N9 says.
+  -- The row's amount is as near the unrounded sum as N9 says.
   pub tracker_near : nat_abs ((unrounded (shares_of o) d (accepted o calls)).0 -ℤ pos 2400000 *ℤ its_row.amount.0) ≤ 1200000 * length (assigned_span (shares_of o) d (accepted o calls))
   tracker_near = amount_near of_direction
 

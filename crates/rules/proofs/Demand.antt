@@ -20,7 +20,7 @@ use Rattle.rules.specs.Claim.{accepted, history, worked_row, DirectionClaim, Cla
 use Rattle.rules.proofs.AcceptedSettings.{settled, threshold_below}
 use Rattle.rules.proofs.PeriodInvariant.{recent_of}
 use Rattle.rules.proofs.Consecutive.{next_number}
-use Rattle.rules.proofs.OneDirection.{sum_of, span_of, inside_of, Got}
+use Rattle.rules.proofs.OneDirection.{sum_of, kept_of, inside_of, Got}
 use Rattle.rules.proofs.Rounding.{direction_rounding}
 use Rattle.rules.proofs.Replay.{Replays, replays, shown_after, next_is}
 
@@ -53,7 +53,7 @@ module _ (o : Opening) (t : Tracker) (bs : List (List ℕ)) (r : Replays o t bs)
       let turn = r.turns d in
       let set = settings_of o in
       let below = threshold_below set (settled o) in
-      let recent = recent_of (Got set es) (next_number (first_of o) es) (state_after set d es).period (span_of set d below (first_of o) es turn) in
+      let recent = recent_of (Got set es) (next_number (first_of o) es) (state_after set d es).period (kept_of set d below (first_of o) es turn) in
       let total = ap (λ (z : ℤ). cents z) (sum_of set d (first_of o) es turn).total in
       rw (row_is d lt) (record {
         is_worked = worked o d bs;

@@ -30,7 +30,7 @@ use Rattle.rules.specs.declared.Counts.{Counts}
 use Rattle.rules.specs.declared.Direction.{Direction}
 use Rattle.rules.specs.declared.Settings.{Settings}
 use Rattle.rules.specs.Market.{corridor_of, reverse, of_directions}
-use Rattle.rules.specs.Residue.{grains_of, in_cents, no_residue, price, line, corridor_grains, corridor_flow, residue_of}
+use Rattle.rules.specs.Residue.{grains_of, in_cents, no_residue, price, line, corridor_grains, corridor_flow, residue_of, along}
 use Rattle.rules.specs.Interval.{half_hour, place, clears_at, rule1, rule2, flag_of, next_of, held, rule6, sums_after, managed_after, counts_after, suspended_after}
 use Rattle.rules.specs.Record.{record_number, reviewed, operating, present, status, blocked, prices, lines, pre_dispatch_prices, pre_dispatch_lines, residue, pre_dispatch_residue, flag, next}
 
@@ -212,8 +212,8 @@ module _ (prices : List Cents) (shares : List ℕ) (lines : List Line) where
   NSW1-to-SA1 = (simp +ℤ_idl, simp +ℤ_idl)
 
   -- Then they are rounded. The corridor's sum of a gives the direction:
-  abbrev assigned : ℕ → Bool → Bool → Residue
-  assigned c to-from flows-back = cond (beq to-from flows-back) (in_cents (corridor_grains prices shares lines c)) no_residue
+  abbrev with_flow : ℕ → Bool → Bool → Residue
+  with_flow c to-from flows-back = along to-from (record { residue = in_cents (corridor_grains prices shares lines c); reverse = flows-back })
 
   abbrev pub flows_back : ℕ → Bool
   flows_back c = negative (corridor_flow prices shares lines c).0
@@ -221,9 +221,9 @@ module _ (prices : List Cents) (shares : List ℕ) (lines : List Line) where
   residue_is : (c d : ℕ) (to-from flows-back : Bool)
       → (corridor_of d ≡ c) × (reverse d ≡ to-from)
       → flows_back c ≡ flows-back
-      → residue_of prices shares lines d ≡ assigned c to-from flows-back
+      → residue_of prices shares lines d ≡ with_flow c to-from flows-back
   unfolding residue_of
-  residue_is c d to-from flows-back of f = ap₂ (λ c t. assigned c t (flows_back c)) of.0 of.1 ∙ ap (assigned c to-from) f
+  residue_is c d to-from flows-back of f = ap₂ (λ c t. with_flow c t (flows_back c)) of.0 of.1 ∙ ap (with_flow c to-from) f
 
   -- zero or more is From_To, less is To_From. That direction's residue r is the rounded sum, with its leftover; the other's is 0, and so is
   -- its leftover (N8).

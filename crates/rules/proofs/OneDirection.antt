@@ -21,7 +21,7 @@ use Rattle.rules.specs.declared.Settings.{Settings}
 use Rattle.rules.specs.Interval.{place, clears_at, at_half_hour_start, rule1, rule2, amount, at_threshold, reached, step_of}
 use Rattle.rules.specs.History.{latest_half_hour, any_negative, clearing, since_clearing, sum_negative, sum_since, under_review, got_there, lies_in, state_after}
 use Rattle.rules.proofs.SumInvariant.{SumInvariant, invariant_fresh, invariant_at_start, invariant_rule2, low}
-use Rattle.rules.proofs.PeriodInvariant.{Span, T_true, advance}
+use Rattle.rules.proofs.PeriodInvariant.{Kept, T_true, advance}
 use Rattle.rules.proofs.Consecutive.{next_number, InTurn, latest_half_hour_lem}
 
 -- ---- the sum
@@ -83,8 +83,8 @@ module _ (set : Settings) (d : ℕ) where
 
   module _ (below : T (negative set.threshold.0)) (first : ℕ) where
     -- one interval, and all
-    step : (e : Event) (es : List Event) → InTurn first (e ∷ es) → Span (Got set es) e.n (state_after set d es).period
-        → Span (Got set (e ∷ es)) (suc e.n) (state_after set d (e ∷ es)).period
+    step : (e : Event) (es : List Event) → InTurn first (e ∷ es) → Kept (Got set es) e.n (state_after set d es).period
+        → Kept (Got set (e ∷ es)) (suc e.n) (state_after set d (e ∷ es)).period
         × (T (reached set.threshold e (amount (state_after set d (e ∷ es)).sums)) → T (lies_in (suc e.n) (state_after set d (e ∷ es)).period))
     unfolding state_after step_of
     step e es turn s =
@@ -97,13 +97,13 @@ module _ (set : Settings) (d : ℕ) where
         let both = and_yes (got_there set (e ∷ es)) (not e.review) u in (omega arith, both.0, both.1))
         s
 
-    pub span_of : (es : List Event) → InTurn first es → Span (Got set es) (next_number first es) (state_after set d es).period
+    pub kept_of : (es : List Event) → InTurn first es → Kept (Got set es) (next_number first es) (state_after set d es).period
     unfolding state_after
-    span_of [] t = tt
-    span_of (e ∷ es) t = (step e es t (rw t.0 (span_of es t.2))).0
+    kept_of [] t = tt
+    kept_of (e ∷ es) t = (step e es t (rw t.0 (kept_of es t.2))).0
 
     pub inside_of : (es : List Event) → InTurn first es → T (got_there set es) → T (not (under_review es)) → T (lies_in (next_number first es) (state_after set d es).period)
     unfolding since_clearing sum_negative
     inside_of [] t g v = absurd (zero_above set below g)
-    inside_of (e ∷ es) t g v = (step e es t (rw t.0 (span_of es t.2))).1
+    inside_of (e ∷ es) t g v = (step e es t (rw t.0 (kept_of es t.2))).1
         (subst (λ (z : ℤ). T (reached set.threshold e (cents z))) (sym (sum_of first (e ∷ es) t).total) (yes_and (got_there set (e ∷ es)) (not e.review) g v))

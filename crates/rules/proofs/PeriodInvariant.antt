@@ -24,9 +24,9 @@ pub record Holds (Was : ℕ → Type 0) (a first last : ℕ) : Type 0 where
   pub recent : last + age ≤ a + 11
 
 -- of a period, held or not; and of one that is held
-abbrev pub Span : (ℕ → Type 0) → ℕ → Period → Type 0
-Span Was a None = Unit {0}
-Span Was a (Held first last extended) = Holds Was a first last
+abbrev pub Kept : (ℕ → Type 0) → ℕ → Period → Type 0
+Kept Was a None = Unit {0}
+Kept Was a (Held first last extended) = Holds Was a first last
 
 abbrev Inside : (ℕ → Type 0) → ℕ → Period → Type 0
 Inside Was a None = ⊥
@@ -36,16 +36,16 @@ pub T_true : (a : Bool) → T a → a ≡ true
 T_true true t = refl
 T_true false t = absurd t
 
-inside_span : (Was : ℕ → Type 0) (a : ℕ) (p : Period) → Inside Was a p → Span Was a p
-inside_span Was a None s = absurd s
-inside_span Was a (Held first last x) s = s
+inside_kept : (Was : ℕ → Type 0) (a : ℕ) (p : Period) → Inside Was a p → Kept Was a p
+inside_kept Was a None s = absurd s
+inside_kept Was a (Held first last x) s = s
 
 inside_lies : (Was : ℕ → Type 0) (a : ℕ) (p : Period) → Inside Was a p → T (lies_in a p)
 inside_lies Was a None s = absurd s
 inside_lies Was a (Held first last x) s = yes_and (leb first a) (leb a last) (le→leb first a s.from) (le→leb a last s.to)
 
 -- a period in which the awaited number lies reaches back no further than twelve intervals
-pub recent_of : (Was : ℕ → Type 0) (a : ℕ) (p : Period) → Span Was a p → T (lies_in a p) → (i : ℕ) × (i < 12) × Was i
+pub recent_of : (Was : ℕ → Type 0) (a : ℕ) (p : Period) → Kept Was a p → T (lies_in a p) → (i : ℕ) × (i < 12) × Was i
 recent_of Was a None s t = absurd t
 recent_of Was a (Held first last x) s t = (s.age, omega arith, s.was)
 
@@ -86,10 +86,10 @@ module _ (Was Now : ℕ → Type 0) (later : (i : ℕ) → Was i → Now (suc i)
     recent = omega (arith, s.recent);
   }
 
-  ends : (first last last' : ℕ) (x : Bool) → Holds Was n first last → n ≤ last' → last' ≤ last → last' % 6 ≡ 5 → Span Now (suc n) (ended n (Held first last' x)).period
+  ends : (first last last' : ℕ) (x : Bool) → Holds Was n first last → n ≤ last' → last' ≤ last → last' % 6 ≡ 5 → Kept Now (suc n) (ended n (Held first last' x)).period
   ends first last last' x s lt le w = go (is_over n last') refl
     where
-      go : (over : Bool) → is_over n last' ≡ over → Span Now (suc n) (closed over (Held first last' x)).period
+      go : (over : Bool) → is_over n last' ≡ over → Kept Now (suc n) (closed over (Held first last' x)).period
       go true e = tt
       go false e = stay first last s last' (not_over n last' e lt) le w
 
@@ -110,21 +110,21 @@ module _ (Was Now : ℕ → Type 0) (later : (i : ℕ) → Was i → Now (suc i)
       let k = full n last x e s.whole s.to in
       rw (goes_on n last k) (stay first last s last k (omega arith) s.whole)
 
-  reach : (p : Period) → Now zero → Span Was n p → Inside Now (suc n) (rule4 n true true p).period
+  reach : (p : Period) → Now zero → Kept Was n p → Inside Now (suc n) (rule4 n true true p).period
   reach None now s = record { from = omega arith; to = omega arith; whole = omega arith; near = omega arith; age = zero; was = now; recent = omega arith }
   reach (Held first last x) now s = reach_held first last x (extends n last x) refl now s
 
   -- it did not
-  idle : (flag : Bool) (p : Period) → Span Was n p → Span Now (suc n) (rule4 n flag false p).period
+  idle : (flag : Bool) (p : Period) → Kept Was n p → Kept Now (suc n) (rule4 n flag false p).period
   idle flag None s = tt
   idle true (Held first last x) s = ends first last last x s s.to (omega arith) s.whole
   idle false (Held first last x) s = ends first last (min last (6 * (n / 6) + 5)) x s (omega (arith, s.to)) (omega arith) (omega (arith, s.whole))
 
   -- both, told that an interval gets there only at flag 1
-  pub advance : (flag got : Bool) (p : Period) → (T got → T flag) → (T got → Now zero) → Span Was n p → Span Now (suc n) (rule4 n flag got p).period × (T got → T (lies_in (suc n) (rule4 n flag got p).period))
+  pub advance : (flag got : Bool) (p : Period) → (T got → T flag) → (T got → Now zero) → Kept Was n p → Kept Now (suc n) (rule4 n flag got p).period × (T got → T (lies_in (suc n) (rule4 n flag got p).period))
   advance true true p f now s =
       let k = reach p (now tt) s in
-      (inside_span Now (suc n) (rule4 n true true p).period k, λ _. inside_lies Now (suc n) (rule4 n true true p).period k)
+      (inside_kept Now (suc n) (rule4 n true true p).period k, λ _. inside_lies Now (suc n) (rule4 n true true p).period k)
   advance true false p f now s = (idle true p s, λ t. absurd t)
   advance false true p f now s = absurd (f tt)
   advance false false p f now s = (idle false p s, λ t. absurd t)

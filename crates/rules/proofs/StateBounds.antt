@@ -41,9 +41,9 @@ use Rattle.rules.proofs.CentsAndGrains.{none_left}
 use Rattle.rules.proofs.Leftover.{residue_leftover}
 use Rattle.rules.proofs.ResidueBounds.{residue_size, lower_size, cond_size}
 use Rattle.rules.proofs.SumInvariant.{NonPos, none, some, nonpos_plus, nonpos_low, SumInvariant}
-use Rattle.rules.proofs.PeriodInvariant.{Span}
+use Rattle.rules.proofs.PeriodInvariant.{Kept}
 use Rattle.rules.proofs.Consecutive.{next_number, InTurn}
-use Rattle.rules.proofs.OneDirection.{sum_grows, sum_of, span_of, Got}
+use Rattle.rules.proofs.OneDirection.{sum_grows, sum_of, kept_of, Got}
 use Rattle.rules.proofs.Replay.{Replays, AllSound, shown_after, first_early, next_is}
 use Rattle.rules.proofs.Came.{replayed}
 
@@ -152,7 +152,7 @@ clamp_size set d ok (e ∷ es) =
     rule7_size set.edges (own_at set.directions d) ok e.blocked e.target (managed_after set e s).period (suspended_after set e s) (sums_after e s).net s.clamp
 
 -- ---- the period, and how many intervals there are
-period_size : (Was : ℕ → Type 0) (a : ℕ) (p : Period) → Span Was a p → BoundedPeriod a p
+period_size : (Was : ℕ → Type 0) (a : ℕ) (p : Period) → Kept Was a p → BoundedPeriod a p
 period_size Was a None s = tt
 period_size Was a (Held first last x) s = record { begun = s.from; ends = omega (arith, s.recent) }
 
@@ -206,7 +206,7 @@ module _ (o : Opening) (d : ℕ) where
         residue = latest.0;
         next = latest.1;
         leftover = latest.2;
-        period = rw (← next_is o d bs) (period_size (Got set es) (next_number (first_of o) es) (state_after set d es).period (span_of set d (threshold_below set ok) (first_of o) es turn));
+        period = rw (← next_is o d bs) (period_size (Got set es) (next_number (first_of o) es) (state_after set d es).period (kept_of set d (threshold_below set ok) (first_of o) es turn));
         unbound = counts.unbound;
         violated = counts.violated;
         clamp = clamp_size set d (direction_ok_lem set ok d lt) es;

@@ -43,34 +43,24 @@ awaited_from o calls = awaited_after o (accepted o calls)
 abbrev pub worked_from : Opening → List (List ℕ) → ℕ → Row
 worked_from o calls d = worked_row (settings_of o) (first_of o) d (history o d (accepted o calls))
 
-module _ (o : Opening) (d : ℕ) (bs : List (List ℕ)) where
-  -- The settings of the opening (N2), the direction's history and the awaited number.
-  abbrev set : Settings
-  set = settings_of o
+-- The claim about one direction d, after an opening and the accepted records bs: r is the tracker's row. All that the row is held to follows from
+-- the opening, with its settings (N2), and these records.
+pub record DirectionClaim (o : Opening) (d : ℕ) (bs : List (List ℕ)) (r : Row) : Type 0 where
+  -- (row) the tracker's row equals the one that document 01 works out from the opening and those calls
+  pub is_worked : r ≡ worked_row (settings_of o) (first_of o) d (history o d bs)
+  -- (sum) the row's accumulated amount equals the sum of that direction's negative residues over the accepted intervals after its
+  -- latest clearing interval
+  pub sum : r.amount ≡ sum_since (history o d bs)
+  -- (clamped) if that sum plus the next-half-hour estimate is at or below the settings' threshold (N2) and the latest accepted interval is not
+  -- under review, the next interval lies in the row's management period
+  pub clamped : T (got_there (settings_of o) (history o d bs)) → T (not (under_review (history o d bs))) → T (lies_in (awaited_after o bs) r.period)
+  -- (not without cause) the next interval lies in it only if one of the last twelve accepted intervals got there without review
+  pub caused : T (lies_in (awaited_after o bs) r.period) → GotThereWithin 12 (settings_of o) (history o d bs)
+  -- (rounding, N9) the row's amount and the unrounded sum differ by at most half a cent for each interval in the span in which the grains were
+  -- assigned to the direction; with none both are 0
+  pub rounding : Rounding (shares_of o) d bs r.amount
 
-  abbrev es : List Event
-  es = history o d bs
-
-  abbrev a : ℕ
-  a = awaited_after o bs
-
-  -- Of one direction d, after an opening and the accepted records bs: r is the tracker's row.
-  pub record DirectionClaim (r : Row) : Type 0 where
-    -- (row) the tracker's row equals the one that document 01 works out from the opening and those calls
-    pub is_worked : r ≡ worked_row set (first_of o) d es
-    -- (sum) the row's accumulated amount equals the sum of that direction's negative residues over the accepted intervals after its
-    -- latest clearing interval
-    pub sum : r.amount ≡ sum_since es
-    -- (clamped) if that sum plus the next-half-hour estimate is at or below the settings' threshold (N2) and the latest accepted interval is
-    -- not under review, the next interval lies in the row's management period
-    pub clamped : T (got_there set es) → T (not (under_review es)) → T (lies_in a r.period)
-    -- (not without cause) the next interval lies in it only if one of the last twelve accepted intervals got there without review
-    pub caused : T (lies_in a r.period) → GotThereWithin 12 set es
-    -- (rounding, N9) the row's amount and the unrounded sum differ by at most half a cent for each interval in the span in which the grains were
-    -- assigned to the direction; with none both are 0
-    pub rounding : Rounding (shares_of o) d bs r.amount
-
--- Of an opening, the accepted records and the tracker t that they left.
+-- The claim about an opening, the accepted records bs and the tracker t that they left.
 pub record ClaimOf (o : Opening) (bs : List (List ℕ)) (t : Tracker) : Type 0 where
   pub awaits : t.awaited ≡ awaited_after o bs
   pub eight : length t.directions ≡ 8
@@ -78,7 +68,7 @@ pub record ClaimOf (o : Opening) (bs : List (List ℕ)) (t : Tracker) : Type 0 w
   pub hands_on : (b : List ℕ) → T (not (accepts (awaited_after o bs) b)) → after t b ≡ t
   pub each : (d : ℕ) → d < 8 → DirectionClaim o d bs (row_of t d)
 
--- Of an opening, any list of calls and the tracker t that they left.
+-- The claim about an opening, any list of calls and the tracker t that they left.
 abbrev pub Claim : Opening → List (List ℕ) → Tracker → Type 0
 Claim o calls t = ClaimOf o (accepted o calls) t
 

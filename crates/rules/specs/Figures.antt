@@ -1,11 +1,11 @@
 -- Document 01, "Figures to prove (P)", an example of N4, N8's leftover at both ends of its range, N2's settings, and N9's unrounded sum: one
 -- table about the definitions.
-use Rattle.std.specs.Prelude.{Ok, Bool, true, false, List, [], ◌∷◌, ◌++◌, map, ◌≡◌, ℕ, zero, suc, ◌*◌, ◌-◌, ◌/◌, ◌%◌, ℤ, pos, negsuc, nat_abs, length, replicate}
+use Rattle.std.specs.Prelude.{Ok, Bool, true, false, List, [], ◌∷◌, ◌++◌, map, ◌≡◌, ℕ, zero, suc, ◌*◌, ◌-◌, ◌/◌, ◌%◌, ℤ, pos, negsuc, length, replicate}
 use Rattle.signed.specs.Range.{minus}
 use Rattle.units.specs.declared.Cents.{Cents}
 use Rattle.units.specs.declared.Hundredths.{Hundredths}
 use Rattle.units.specs.declared.Grains.{Grains}
-use Rattle.units.specs.Units.{cents, hundredths, grains, in_grains, ◌-ᵍ◌}
+use Rattle.units.specs.Units.{cents, hundredths, grains}
 use Rattle.rules.specs.declared.Line.{Line}
 use Rattle.rules.specs.declared.Residue.{Residue}
 use Rattle.rules.specs.declared.Event.{Event}
@@ -21,7 +21,7 @@ use Rattle.rules.specs.Interval.{amount, reached, band, clamp_from, flag_of}
 use Rattle.rules.specs.History.{sum_since, state_after}
 use Rattle.rules.specs.Record.{residue}
 use Rattle.rules.specs.Refusal.{interval_outcome}
-use Rattle.rules.specs.Rounding.{span, assigned_span, unrounded}
+use Rattle.rules.specs.Rounding.{span, assigned_span, unrounded, apart}
 use Rattle.rules.specs.Tracker.{Opening, opening, shares_of, residue_shown, row_answer, run}
 use Rattle.rules.specs.Claim.{accepted}
 
@@ -88,41 +88,39 @@ abbrev pub metered1 : ℕ → ℕ → ℤ → List (List ℕ)
 metered1 first zero p = []
 metered1 first (suc k) p = one_line first p (pos 1) ∷ metered1 (suc first) k p
 
--- What N9 compares, of one direction: its row's amount, the unrounded sum, the number of intervals in the span, and how many of them count: those
--- in which the grains were assigned to it.
+-- What N9 compares, of one direction: its row's amount, the unrounded sum, the number of intervals in the span, and in how many of them the
+-- grains were assigned to it.
 pub record Compared : Type 0 where
   pub amount : Cents
   pub unrounded : Grains
   pub intervals : ℕ
-  pub counted : ℕ
+  pub assigned_intervals : ℕ
 
 abbrev pub comparing : ℤ → ℤ → ℕ → ℕ → Compared
-comparing amount sum intervals counted = record { amount = cents amount; unrounded = grains sum; intervals = intervals; counted = counted }
+comparing amount sum intervals assigned = record { amount = cents amount; unrounded = grains sum; intervals = intervals; assigned_intervals = assigned }
 
--- Of direction d of a tracker t that the accepted records bs left; and after any list of calls.
+-- What N9 compares of direction d of a tracker t that the accepted records bs left.
 abbrev pub compared_at : List ℕ → Tracker → List (List ℕ) → ℕ → Compared
 compared_at shares t bs d = record {
   amount = (row_answer t d).row.amount;
   unrounded = unrounded shares d bs;
   intervals = length (span shares d bs);
-  counted = length (assigned_span shares d bs);
+  assigned_intervals = length (assigned_span shares d bs);
 }
 
+-- What N9 compares of direction d after an opening and any list of calls.
 abbrev pub compared : Opening → List (List ℕ) → ℕ → Compared
 compared o calls d = compared_at (shares_of o) (run o calls) (accepted o calls) d
 
--- By how many grains amount and unrounded sum differ.
-abbrev pub apart : Compared → ℕ
-apart c = nat_abs (c.unrounded -ᵍ in_grains c.amount).0
-
--- Of NSW1_QLD1: after six intervals at a QLD1 price of -1,200; and after one at -1,200, the same n again, which is refused, and one at 1,900. Of
--- direction d: after k intervals at -1,199. Each list begins with a half-hour.
+-- NSW1_QLD1 after the first six intervals of a half-hour at a QLD1 price of -1,200.
 abbrev pub tight : Compared
 tight = compared (opening 478044 halves) (metered1 478044 6 (minus 1200)) 0
 
+-- NSW1_QLD1 after an interval at -1,200, the same n again at -1,900, which is refused, and an interval at 1,900.
 abbrev pub both_sides : Compared
 both_sides = compared (opening 478044 halves) (one_line 478044 (minus 1200) (pos 1) ∷ one_line 478044 (minus 1900) (pos 1) ∷ one_line 478045 (pos 1900) (pos 1) ∷ []) 0
 
+-- Direction d after the first k intervals of a half-hour at -1,199.
 abbrev pub rounded_to_0 : ℕ → ℕ → Compared
 rounded_to_0 k d = compared (opening 985284 halves) (metered1 985284 k (minus 1199)) d
 
@@ -244,10 +242,11 @@ pub record Figures : Type 0 where
   -- The widest steps: down to an offset of 0, and of 100,000; up to the cap.
   pub n2_clamp : (clamp_of (pos 5000) (minus 100000) (pos 0) ≡ hundredths (pos 0)) × (clamp_of (pos 5000) (minus 100000) (pos 100000) ≡ hundredths (pos 100000)) × (clamp_of (pos 999999) (pos 100000) (pos 0) ≡ hundredths (pos 1000000))
   -- N9 six times -1,200,000 grains, rounded to -1 each: the bound is met exactly.
-  pub n9_tight : (tight ≡ comparing (minus 6) (minus 7200000) 6 6) × (apart tight ≡ half_cent * 6)
+  pub n9_tight : (tight ≡ comparing (minus 6) (minus 7200000) 6 6) × (apart tight.amount tight.unrounded ≡ half_cent * 6)
   -- A refused record counts as nothing; grains above 0 add nothing, and their interval is in the span.
   pub n9_both_sides : both_sides ≡ comparing (minus 1) (minus 1200000) 2 2
   -- Five times -1,199,000 grains, each rounded to 0: the amount is 0, and the unrounded sum is not. None were assigned to QLD1_NSW1. A corridor
-  -- with no flow has its grains assigned to From_To. The sixth interval closes the half-hour, and clears.
+  -- with no flow has its grains assigned to From_To.
   pub n9_rounded_to_0 : map (rounded_to_0 5) (0 ∷ 1 ∷ 2 ∷ 3 ∷ []) ≡ comparing (pos 0) (minus 5995000) 5 5 ∷ comparing (pos 0) (pos 0) 5 0 ∷ comparing (pos 0) (pos 0) 5 5 ∷ comparing (pos 0) (pos 0) 5 0 ∷ []
+  -- The half-hour's sixth interval closes it, and clears: its grains are negative, and all round to 0.
   pub n9_cleared : rounded_to_0 6 0 ≡ comparing (pos 0) (pos 0) 0 0

@@ -1,5 +1,5 @@
 -- Document 01, "Residue": in grains for a physical interconnector, in cents for a corridor, and the direction that it is assigned to.
-use Rattle.std.specs.Prelude.{cond, List, ℕ, zero, suc, ◌+◌, ◌/◌, ℤ, pos, negsuc, nat_abs, ◌+ℤ◌, ◌-ℤ◌, ◌*ℤ◌, get_or}
+use Rattle.std.specs.Prelude.{Bool, cond, List, ℕ, zero, suc, ◌+◌, ◌/◌, ℤ, pos, negsuc, nat_abs, ◌+ℤ◌, ◌-ℤ◌, ◌*ℤ◌, get_or}
 use Rattle.std.specs.Bool.{beq}
 use Rattle.signed.specs.Range.{minus, negative}
 use Rattle.units.specs.declared.Cents.{Cents}
@@ -82,8 +82,9 @@ module _ (prices : List Cents) (shares : List ℕ) (lines : List Line) where
   abbrev pub corridor_residue : ℕ → CorridorResidue
   corridor_residue c = record { residue = in_cents (corridor_grains c); reverse = negative (corridor_flow c).0 }
 
-  -- That direction's residue r is the rounded sum, with its leftover; the other's is 0, and so is its leftover (N8).
-  unfoldable pub residue_of : ℕ → Residue
-  residue_of d =
-      let r = corridor_residue (corridor_of d) in
-      cond (beq (reverse d) r.reverse) r.residue no_residue
+-- That direction's residue r is the rounded sum, with its leftover; the other's is 0, and so is its leftover (N8).
+abbrev pub along : Bool → CorridorResidue → Residue
+along to_from r = cond (beq to_from r.reverse) r.residue no_residue
+
+unfoldable pub residue_of : List Cents → List ℕ → List Line → ℕ → Residue
+residue_of prices shares lines d = along (reverse d) (corridor_residue prices shares lines (corridor_of d))

@@ -49,17 +49,21 @@ module _ (shares : List ℕ) (d : ℕ) where
   abbrev pub unrounded : List (List ℕ) → Grains
   unrounded bs = sum_lower (assigned_span bs)
 
--- An amount, in grains, and a sum of grains differ by at most n.
-abbrev pub DifferAtMost : ℕ → Cents → Grains → Type 0
-DifferAtMost n amount sum = nat_abs (sum -ᵍ in_grains amount).0 ≤ n
+-- By how many grains an amount and a sum of grains differ.
+abbrev pub apart : Cents → Grains → ℕ
+apart amount sum = nat_abs (sum -ᵍ in_grains amount).0
 
--- They differ by at most half a cent, 1,200,000 grains, for each of k intervals.
+-- An amount and a sum of grains differ by at most n grains.
+abbrev pub DifferAtMost : ℕ → Cents → Grains → Type 0
+DifferAtMost n amount sum = apart amount sum ≤ n
+
+-- An amount and a sum of grains differ by at most half a cent, 1,200,000 grains, for each of k intervals.
 abbrev pub NearFor : ℕ → Cents → Grains → Type 0
 NearFor k amount sum = DifferAtMost (half_cent * k) amount sum
 
--- Of a direction's amount after the accepted records bs:
+-- The bound on direction d's amount after the accepted records bs.
 pub record Rounding (shares : List ℕ) (d : ℕ) (bs : List (List ℕ)) (amount : Cents) : Type 0 where
-  -- It and the unrounded sum differ by at most half a cent, 1,200,000 grains, for each interval in the span in which the grains were assigned to d.
+  -- The amount and the unrounded sum differ by at most half a cent, 1,200,000 grains, for each interval in the span in which the grains were assigned to d.
   pub near : NearFor (length (assigned_span shares d bs)) amount (unrounded shares d bs)
   -- With no such interval (if the span has none at all, in particular) both are 0.
   pub both_zero : assigned_span shares d bs ≡ [] → (amount ≡ cents (pos 0)) × (unrounded shares d bs ≡ grains (pos 0))

@@ -1,7 +1,7 @@
 -- What crates above the tracker may cite, and nothing else of it or of the crates that it is made of (with the laws of proofs/Promise): the words
 -- of the calls, of demand 3 with N9's bound, and of N8's law on a corridor's rows, and what the calls promise by them. (Crate `words`, which reads
 -- and writes bytes for all, is no part of it.) What lies under these words is not opened from above: the tests of numbers 4 to 8, 10, 19 and 20,
--- what a record says of a direction or a corridor (event_of, grains_in), and what the rules make of its history (state_after).
+-- what a record says of a direction or a corridor (event_of, grains_in, assigned_to), and what the rules make of its history (state_after).
 use Rattle.std.specs.Prelude.{List, [], ◌∷◌, ◌++◌, ◌≡◌, ℕ, ◌<◌}
 -- amounts, flows and parts of a cent
 pub use Rattle.signed.specs.Range.{minus, negative}
@@ -57,7 +57,7 @@ pub use Rattle.rules.specs.Record.{grains_in}
 pub use Rattle.rules.specs.Residue.{half_cent}
 pub use Rattle.rules.specs.Rounding.{lower_grains, direction_grains, assigned_to}
 unfoldable pub use Rattle.rules.specs.Rounding.{span, assigned_of, sum_lower}
-pub use Rattle.rules.specs.Rounding.{assigned_span, unrounded, DifferAtMost, NearFor, Rounding}
+pub use Rattle.rules.specs.Rounding.{assigned_span, unrounded, apart, DifferAtMost, NearFor, Rounding}
 -- one value for each of the eight directions
 pub use Rattle.rules.specs.Market.{of_directions}
 -- how large the numbers of a row get

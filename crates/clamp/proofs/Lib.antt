@@ -1,2 +1,0 @@
--- What holds of the number of a band.
-pub mod BandNumber
