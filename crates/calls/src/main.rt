@@ -9,7 +9,7 @@ ghost use Rattle.calls.specs.Internal.{call_words, word_of, part_end};
 
 use journal::TRAILER;
 use report::{SETTINGS, print_number};
-use rules::{Answer, Refusal, Settings, Tracker};
+use rules::{Answer, Refusal, SetAnswer, Settings, Tracker};
 use std::rt::Files;
 use std::{array, io};
 
@@ -32,6 +32,7 @@ enum Call<'a> {
         settings: Settings,
     },
     Interval(&'a [u8]),
+    Set(&'a [u8]),
     Row(usize),
     Read(&'a [u8]),
     Write {
@@ -89,6 +90,8 @@ impl<'a> Call<'a> {
             }),
             // interval AT LEN
             2 => Some(Call::Interval(part_of(call, records)?)),
+            // set AT LEN
+            4 => Some(Call::Set(part_of(call, records)?)),
             // row D
             7 => Some(Call::Row(word(call, 1) as usize)),
             // read AT LEN
@@ -125,6 +128,21 @@ fn print_answer(rt: &impl Print, answer: Answer) -> io::Result<Tracker>
     ensures { IfOk result Came }
 {
     print_number(rt, number_of(answer.outcome), b'\n')?;
+    Ok(answer.tracker)
+}
+
+// What the call of a set answers: the number and the index, 0 0 if accepted.
+fn print_set_answer(rt: &impl Print, answer: SetAnswer) -> io::Result<Tracker>
+    requires { Came answer.tracker }
+    ensures { IfOk result Came }
+{
+    let refused = answer.outcome.err();
+    print_number(
+        rt,
+        refused.map_or(0, |at| u64::from(u8::from(at.why))),
+        b' ',
+    )?;
+    print_number(rt, refused.map_or(0, |at| at.index as u64), b'\n')?;
     Ok(answer.tracker)
 }
 
@@ -209,6 +227,7 @@ fn run_call(rt: &impl Print, t: Tracker, call: Call) -> io::Result<Tracker>
             return print_answer(rt, opened);
         }
         Call::Interval(bytes) => return print_answer(rt, tracker::interval(t, bytes)),
+        Call::Set(bytes) => return print_set_answer(rt, tracker::set_of_intervals(t, bytes)),
         Call::Row(direction) => print_row(rt, t, direction)?,
         Call::Read(journal) => print_read(rt, journal)?,
         Call::Write { records, room } => {

@@ -1,7 +1,7 @@
--- Demand 3 of a list of two calls, about direction 2, and of one call under settings (N2), about direction 4; N8's law of a list of one call; and
--- N6's laws of the views of two rows.
-use Rattle.std.specs.Prelude.{Ok, true, List, [], ◌∷◌, ◌≡◌, ℕ}
-use Rattle.tracker.specs.Promise.{Row, Settings, judged, open_conditions, opening_with, opening, first_of, shares_of, settings_of, accepted, DirectionClaim, residue_shown, together, grains_in}
+-- Demand 3 of a list of two calls, about direction 2, of one call under settings (N2), about direction 4, and of a call with a set after it (N10),
+-- about direction 6; N8's law of a list of one call; and N6's laws of the views of two rows.
+use Rattle.std.specs.Prelude.{Ok, true, List, [], ◌∷◌, ◌++◌, ◌≡◌, ℕ}
+use Rattle.tracker.specs.Promise.{Row, Settings, judged, open_conditions, opening_with, opening, first_of, shares_of, settings_of, accepted, awaited_from, DirectionClaim, residue_shown, together, grains_in, records_in, set_outcome, Interval, Set, singly}
 use Rattle.readers.specs.Views.{Alike, shows_anything}
 use Rattle.readers.specs.Promise.{TraderPromise, ControlPromise}
 use Rattle.example.specs.declared.BothWays.{BothWays}
@@ -11,20 +11,29 @@ use Rattle.example.specs.declared.TwoViews.{TwoViews}
 abbrev pub Own : ℕ → List ℕ → List ℕ → List ℕ → Row → Type 0
 Own first shares earlier later r =
     let o = opening first shares in
-    let calls = earlier ∷ later ∷ [] in
+    let calls = Interval earlier ∷ Interval later ∷ [] in
     DirectionClaim o 2 (accepted o calls) r
 
 -- The claim of direction 4; and if the opening is accepted, the first n, the shares and the settings that it reads are the caller's own.
 abbrev pub Tried : ℕ → List ℕ → Settings → List ℕ → Row → Type 0
 Tried first shares set b r =
     let o = opening_with first shares set in
-    DirectionClaim o 4 (accepted o (b ∷ [])) r × (judged (open_conditions first shares set) ≡ Ok tt → (first_of o ≡ first) × (shares_of o ≡ shares) × (settings_of o ≡ set))
+    DirectionClaim o 4 (accepted o (Interval b ∷ [])) r × (judged (open_conditions first shares set) ≡ Ok tt → (first_of o ≡ first) × (shares_of o ≡ shares) × (settings_of o ≡ set))
+
+-- The claim of direction 6 after a record b and a set s (N10), each accepted or refused; and if the set is accepted, the same claim of the list that
+-- has each of its records in a single call.
+abbrev pub Mixed : ℕ → List ℕ → List ℕ → List ℕ → Row → Type 0
+Mixed first shares b s r =
+    let o = opening first shares in
+    let before = Interval b ∷ [] in
+    DirectionClaim o 6 (accepted o (before ++ (Set s ∷ []))) r
+    × (set_outcome (awaited_from o before) s ≡ Ok tt → DirectionClaim o 6 (accepted o (before ++ singly (records_in s))) r)
 
 -- If the record b is accepted, forward plus reverse cents, with their leftovers, make the grains that corridor 1 has in it.
 abbrev pub Complete : ℕ → List ℕ → List ℕ → BothWays → Type 0
 Complete first shares b r =
     let o = opening first shares in
-    accepted o (b ∷ []) ≡ b ∷ [] → together (residue_shown r.forward) (residue_shown r.back) ≡ grains_in (shares_of o) b 1
+    accepted o (Interval b ∷ []) ≡ b ∷ [] → together (residue_shown r.forward) (residue_shown r.back) ≡ grains_in (shares_of o) b 1
 
 -- What both readers promise of a row.
 abbrev pub Read : Row → Views → Type 0

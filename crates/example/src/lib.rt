@@ -3,7 +3,7 @@
 
 #![tactic(auto)]
 
-ghost use Rattle.example.specs.Own.{Own, Tried, Complete, Read, Told};
+ghost use Rattle.example.specs.Own.{Own, Tried, Mixed, Complete, Read, Told};
 
 use readers::{ControlView, TraderView};
 use rules::{Row, Settings};
@@ -46,6 +46,16 @@ pub fn tried(first: u32, shares: [u16; 6], settings: Settings, bytes: &[u8]) -> 
     let opened = tracker::open_with_settings(first, shares, settings);
     let one = tracker::interval(opened.tracker, bytes);
     tracker::row(&one.tracker, 4).row
+}
+
+// The row of NSW1_SA1 after a record and a set of them, each of any length and content.
+pub fn mixed(first: u32, shares: [u16; 6], bytes: &[u8], set: &[u8]) -> Row
+    ensures { Mixed first shares bytes.now set.now result }
+{
+    let opened = tracker::open(first, shares);
+    let one = tracker::interval(opened.tracker, bytes);
+    let more = tracker::set_of_intervals(one.tracker, set);
+    tracker::row(&more.tracker, 6).row
 }
 
 // The rows of a corridor's two directions after a record.

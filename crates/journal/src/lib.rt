@@ -7,15 +7,15 @@
 ghost use Rattle.std.specs.Prelude.{true, ◌≡◌, ℕ, ◌+◌, ◌≤◌, List, length};
 ghost use Rattle.std.specs.Iterator.{YieldsFirstRef, item_count};
 ghost use mathlib.Core.List.{flatten};
-ghost use Rattle.tracker.specs.Promise.{record_number, issue};
+ghost use Rattle.tracker.specs.Promise.{record_number, issue, records_in};
 ghost use Rattle.words.specs.Buffer.{Puts};
-ghost use Rattle.journal_rules.specs.Journal.{trailer_length, first_number, last_number, follows, in_order, count, distance, first, last, holding, bad_length, bad_trailer, bad_numbers, bad_records, records_of, journal_of};
+ghost use Rattle.journal_rules.specs.Journal.{trailer_length, first_number, last_number, follows, in_order, count, distance, first, last, holding, bad_length, bad_trailer, bad_numbers, records_of, journal_of};
 ghost use Rattle.journal_rules.specs.Survivors.{survivors};
-ghost use Rattle.journal_rules.specs.Internal.{records_in, last_records, counted_records, issued_again, last_of_each, Whole};
+ghost use Rattle.journal_rules.specs.Internal.{last_records, counted_records, issued_again, last_of_each, Whole};
 ghost use Rattle.journal_rules.specs.Promise.{ReadPromise, SurvivorsPromise, WritePromise};
 
 use journal_rules::Contents;
-use rules::{RECORD, Refusal};
+use rules::{MOST_RECORDS, RECORD, Refusal};
 use std::marker::Model;
 
 // The length of a trailer.
@@ -24,9 +24,7 @@ pub const TRAILER: usize = 16;
 // Where a record has its issue (N7).
 const ISSUE: usize = 13;
 
-// The most records that a journal holds, the longest preface before them, and the longest journal.
-pub const MOST_RECORDS: usize = 288;
-
+// The longest preface before a journal's records, and the longest journal.
 const LONGEST_PREFACE: usize = 1024;
 
 pub const LONGEST_JOURNAL: usize = 65536;
@@ -271,13 +269,6 @@ pub fn survivors(journal: &[u8], out: &mut [u8]) -> Result<u32, Refusal>
     Ok((n / RECORD) as u32)
 }
 
-#[tactic(auto, unfolding(journal_rules::specs::Journal::bad_records))]
-fn bad_records(records: &[u8]) -> bool
-    ensures { result ≡ bad_records records.now }
-{
-    records.len() % RECORD != 0 || MOST_RECORDS < records.len() / RECORD
-}
-
 // Records and their trailer, at the start of a buffer that has room for them.
 fn fill(records: &[u8], out: &mut [u8]) -> usize
     requires { Whole records.now × (length records.now + 16 ≤ length out.old) }
@@ -296,7 +287,7 @@ fn fill(records: &[u8], out: &mut [u8]) -> usize
 pub fn write(records: &[u8], out: &mut [u8]) -> Result<usize, Refusal>
     ensures { WritePromise records.now out.old result out.new }
 {
-    Refusal::BadRecords.when(bad_records(records))?;
+    Refusal::BadRecords.when(rules::bad_records(records))?;
     Refusal::NotInOrder.when(!in_order(records))?;
     Refusal::NoRoom.when(out.len() < records.len() + TRAILER)?;
     Ok(fill(records, out))

@@ -190,10 +190,6 @@ of_highest_issue = refl
 
 -- Number 15, above 288 records, whatever else is wrong.
 module _ (r : List ℕ) where
-  pub records_limit : (length r ≡ 48384 → bad_records r ≡ false) × (length r ≡ 48552 → bad_records r ≡ true)
-  unfolding bad_records
-  records_limit = (λ l. rw l, λ l. rw l)
-
   pub too_many : (room : ℕ) → 288 < record_count r → written_of r room ≡ Err BadRecords
   unfolding bad_records write_conditions write_outcome written_of
   too_many room c = rw (lt-ltb 288 (record_count r) c, or-true (not (eqb (length r % 168) 0)))

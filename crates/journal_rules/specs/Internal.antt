@@ -1,7 +1,6 @@
 -- A trailer that points at records inside the journal, the records by what a read gave and one by one, a record that is issued again (N7), and
 -- at most 288 whole records. No promise cites this.
 use Rattle.std.specs.Prelude.{◌≡◌, Bool, false, not, cond, List, [], ◌∷◌, ◌++◌, ℕ, Result, Ok, Err, ◌+◌, ◌*◌, ◌-◌, ◌%◌, ◌≤◌, eqb, ltb, length, take, drop}
-use Rattle.std.specs.Simd.{first_chunks}
 use Rattle.tracker.specs.Promise.{record_number}
 use Rattle.journal_rules.specs.declared.Contents.{Contents}
 use Rattle.journal_rules.specs.Journal.{Refusal, record_length, most_records, trailer_length, record_count, count, distance}
@@ -23,10 +22,6 @@ last_records count s =
 abbrev pub counted_records : Result Contents Refusal → List ℕ → List ℕ
 counted_records (Ok held) s = last_records held.count s
 counted_records (Err why) s = []
-
--- The records one by one; bytes too few for a record are left out.
-abbrev pub records_in : List ℕ → List (List ℕ)
-records_in r = first_chunks record_length (record_count r) r
 
 -- A record is issued again if the first of those behind it has the same n. In records that are in order this says that it is superseded
 -- (proofs/OneByOne `next_tells`).

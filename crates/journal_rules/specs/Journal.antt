@@ -1,21 +1,15 @@
 -- Document 01, the journal: preface, records and trailer; what a read and a write give, and under which numbers they are refused.
 use Rattle.std.specs.Prelude.{Bool, not, cond, ◌&&◌, ◌||◌, List, [], ◌∷◌, ◌++◌, ℕ, Result, Ok, Err, ◌+◌, ◌*◌, ◌-◌, ◌/◌, ◌%◌, eqb, ltb, length, take, drop}
-pub use Rattle.tracker.specs.Promise.{Refusal, BadLength, BadTrailer, BadNumbers, NotInOrder, BadRecords, NoRoom, number, Outcome, number_of, Condition, ◌when◌, judged, number_met}
-unfoldable pub use Rattle.tracker.specs.Promise.{u32_at, each}
+pub use Rattle.tracker.specs.Promise.{Refusal, BadLength, BadTrailer, BadNumbers, NotInOrder, BadRecords, NoRoom, number, Outcome, number_of, Condition, ◌when◌, judged, number_met, record_length, record_count, most_records}
+unfoldable pub use Rattle.tracker.specs.Promise.{u32_at, each, bad_records}
 use Rattle.tracker.specs.Promise.{byte_at}
 use Rattle.words.specs.Buffer.{little_of, over}
 use Rattle.journal_rules.specs.declared.Contents.{Contents}
 
--- A record is 168 bytes. A journal is a preface of 0 to 1,024 free bytes, at most 288 records, superseded ones included (N7), and a trailer of 16
--- bytes; a read takes up to 65,536 bytes.
-abbrev pub record_length : ℕ
-record_length = 168
-
+-- A journal is a preface of 0 to 1,024 free bytes, at most 288 records (most_records) end to end, superseded ones included (N7), and a trailer of
+-- 16 bytes; a read takes up to 65,536 bytes.
 abbrev pub longest_preface : ℕ
 longest_preface = 1024
-
-abbrev pub most_records : ℕ
-most_records = 288
 
 abbrev pub trailer_length : ℕ
 trailer_length = 16
@@ -23,10 +17,7 @@ trailer_length = 16
 abbrev pub longest_journal : ℕ
 longest_journal = 65536
 
--- Records end to end: how many, the n of record i, which it starts with, and its issue, byte 13 of it (N7).
-abbrev pub record_count : List ℕ → ℕ
-record_count r = length r / record_length
-
+-- Records end to end: the n of record i, which it starts with, and its issue, byte 13 of it (N7).
 abbrev pub number_at : List ℕ → ℕ → ℕ
 number_at r i = u32_at r (record_length * i)
 
@@ -133,10 +124,8 @@ trailer_of r = little_of (record_count r) ++ (little_of (length r) ++ (little_of
 unfoldable pub journal_of : List ℕ → List ℕ
 journal_of r = r ++ trailer_of r
 
--- Journal write, into a buffer of length room: 15 length not a multiple of 168, or above 288 records; 14; 16 output too short.
-unfoldable pub bad_records : List ℕ → Bool
-bad_records r = not (eqb (length r % record_length) 0) || ltb most_records (record_count r)
-
+-- Journal write, into a buffer of length room: 15 length not a multiple of 168, or above 288 records (bad_records, as of a set of intervals, N10);
+-- 14; 16 output too short.
 unfoldable pub write_conditions : List ℕ → ℕ → List Condition
 write_conditions r room =
     BadRecords when bad_records r

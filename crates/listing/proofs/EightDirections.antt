@@ -5,7 +5,7 @@ use mathlib.Core.List.{List}
 use Prim.Native.Nat.{ℕ, ◌<◌}
 use native.Mathlib.Omega.{arith}
 use lib.ListN.{get_or}
-use Rattle.tracker.specs.Promise.{Tracker, RowAnswer, RowPromise, RowBounds, no_row, Opening, Came, run, row_answer, of_directions, worked_from}
+use Rattle.tracker.specs.Promise.{Tracker, RowAnswer, RowPromise, RowBounds, no_row, Opening, Came, Call, run_calls, row_answer, of_directions, worked_from}
 use Rattle.tracker.proofs.Promise.{at_direction, row_promise, worked_bounds}
 use Rattle.listing.specs.Internal.{rows_shown}
 
@@ -13,13 +13,13 @@ use Rattle.listing.specs.Internal.{rows_shown}
 pub each_direction : {A : Type 0} (f g : ℕ → A) (default : A) → of_directions f ≡ of_directions g → (d : ℕ) → d < 8 → f d ≡ g d
 each_direction {A} f g default e d h = sym (at_direction f default d h) ∙ ap (λ (l : List A). get_or l d default) e ∙ at_direction g default d h
 
-pub worked_bounded : (o : Opening) (calls : List (List ℕ)) (d : ℕ) → d < 8 → RowBounds (get_or (of_directions (worked_from o calls)) d no_row)
+pub worked_bounded : (o : Opening) (calls : List Call) (d : ℕ) → d < 8 → RowBounds (get_or (of_directions (worked_from o calls)) d no_row)
 worked_bounded o calls d h = rw (at_direction (worked_from o calls) no_row d h) (worked_bounds o calls d h)
 
 pub shown_at : {t : Tracker} {d : ℕ} {a : RowAnswer} → RowPromise t d a → d < 8 → get_or (rows_shown t) d no_row ≡ a.row
 shown_at {t} {d} p h = at_direction (λ d. (row_answer t d).row) no_row d h ∙ ap (λ (a : RowAnswer). a.row) (sym p.is)
 
-pub shown_worked : (t : Tracker) → Came t → (o : Opening) (calls : List (List ℕ)) → t ≡ run o calls → rows_shown t ≡ of_directions (worked_from o calls)
+pub shown_worked : (t : Tracker) → Came t → (o : Opening) (calls : List Call) → t ≡ run_calls o calls → rows_shown t ≡ of_directions (worked_from o calls)
 shown_worked t came o calls q =
     rw (at 0 (omega arith), at 1 (omega arith), at 2 (omega arith), at 3 (omega arith), at 4 (omega arith), at 5 (omega arith), at 6 (omega arith), at 7 (omega arith))
   where

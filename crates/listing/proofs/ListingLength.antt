@@ -17,7 +17,7 @@ use Rattle.journal_rules.specs.Journal.{read_of, records_of}
 use Rattle.journal_rules.specs.Survivors.{survivors}
 use Rattle.journal_rules.proofs.Accept.{records_whole}
 use Rattle.journal_rules.proofs.Survivors.{no_more}
-use Rattle.tracker.specs.Promise.{Refusal, Row, RowBounds, no_row, Opening, number, number_met, open_conditions, interval_conditions, awaited_from, of_directions, worked_from}
+use Rattle.tracker.specs.Promise.{Refusal, Row, RowBounds, no_row, Opening, number, number_met, open_conditions, interval_conditions, awaited_from, of_directions, worked_from, Call, Interval}
 use Rattle.listing.specs.Line.{newline, line_of, listed_of}
 use Rattle.listing.specs.Internal.{row_text}
 use Rattle.listing.specs.Listing.{header, eight_rows, call_lines, refused_line, ended_by, run_lines, opened_at, opening_number, opened_lines, record_lines, read_lines, body_lines, input_lines, lines_of, listing_of, longest_line, longest_listing}
@@ -64,14 +64,14 @@ call_short : (m : Option ℕ)
 call_short none small own following h l n fits room = rw (flatten-append own following) (omega (arith, length-append (flatten own) (flatten following)))
 call_short (some k) small own following h l n fits room = let e = ended_short k (small k refl) in omega arith
 
-eight_short : (o : Opening) (calls : List (List ℕ)) → length (flatten (eight_rows (worked_from o calls))) ≤ 8 * longest_line
+eight_short : (o : Opening) (calls : List Call) → length (flatten (eight_rows (worked_from o calls))) ≤ 8 * longest_line
 eight_short o calls = rw (printed (of_directions (worked_from o calls))) (rows_short (of_directions (worked_from o calls)) (worked_bounded o calls))
 
-run_short : (o : Opening) (passed bs : List (List ℕ)) → length (flatten (run_lines o passed bs)) ≤ 8 * longest_line * length bs
+run_short : (o : Opening) (passed : List Call) (bs : List (List ℕ)) → length (flatten (run_lines o passed bs)) ≤ 8 * longest_line * length bs
 unfolding run_lines flatten
 run_short o passed [] = omega arith
 run_short o passed (b ∷ bs) =
-    let upto = passed ++ (b ∷ []) in
+    let upto = passed ++ (Interval b ∷ []) in
     let awaited = awaited_from o passed in
     call_short (number_met (interval_conditions awaited b)) (met_two_digits (interval_conditions awaited b)) _ _ (eight_short o _) (run_short o upto bs) (8 * longest_line * suc (length bs)) (omega arith) (omega arith)
 

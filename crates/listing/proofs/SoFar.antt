@@ -5,7 +5,8 @@ use mathlib.Core.List.{map, flatten}
 use borrow.Rule.Slice.PartMut.{mid_of, put_mid}
 use Rattle.words.specs.Buffer.{Puts}
 use Rattle.words.proofs.Parts.{nothing, chained, room_behind, flatten-append}
-use Rattle.tracker.specs.Promise.{Tracker, Row, Refusal, number, Answer, OpenPromise, IntervalPromise, CallAfter, of_directions, worked_from, run}
+use Rattle.tracker.specs.Promise.{Came, Tracker, Row, Refusal, number, Answer, OpenPromise, IntervalPromise, CallAfter, of_directions, worked_from, Call, Interval, run_calls}
+use Rattle.tracker.proofs.Promise.{came_ran}
 use Rattle.journal_rules.specs.Survivors.{survivors}
 use Rattle.listing.specs.Internal.{row_text, rows_text}
 use Rattle.listing.specs.Listing.{eight_rows, ended_by, run_lines, opened_at, opened_lines}
@@ -16,10 +17,10 @@ use Rattle.listing.proofs.LinesByCase.{printed, go_on, go_off, opened}
 abbrev pub all : ℕ → List ℕ → List ℕ
 all first r = flatten (opened_lines first (survivors r))
 
--- the tracker is the run of the survivors passed, and bs are left; what was put into buffer d, which is `out` since, has n bytes
+-- the tracker is the run of the calls passed, of survivors, and bs are left; what was put into buffer d, which is `out` since, has n bytes
 pub record SoFar (first : ℕ) (r : List ℕ) (bs : List (List ℕ)) (t : Tracker) (d : List ℕ) (n : ℕ) (out : List ℕ) : Type 0 where
-  pub passed : List (List ℕ)
-  pub ran : t ≡ run (opened_at first) passed
+  pub passed : List Call
+  pub ran : t ≡ run_calls (opened_at first) passed
   pub put : List ℕ
   pub parts : all first r ≡ put ++ flatten (run_lines (opened_at first) passed bs)
   pub puts : Puts put d n out
@@ -32,6 +33,9 @@ pub started : {first : ℕ} {r : List ℕ} {bs : List (List ℕ)} {a : Answer}
 started {first} {r} q p e d = record { passed = []; ran = p.ran; put = []; parts = rw q (ap flatten (opened first (survivors r) p e)); puts = nothing d }
 
 module _ {first : ℕ} {r : List ℕ} {bs : List (List ℕ)} {t : Tracker} {d : List ℕ} {n : ℕ} {out : List ℕ} (l : SoFar first r bs t d n out) where
+  pub came : Came t
+  came = came_ran (opened_at first) l.passed l.ran
+
   pub ended : bs ≡ [] → Puts (all first r) d n out
   unfolding flatten run_lines
   ended e = rw (rw e at l.parts ∙ append-nil l.put) l.puts
@@ -55,8 +59,8 @@ module _ {first : ℕ} {r : List ℕ} {bs : List (List ℕ)} {t : Tracker} {d : 
 
     -- the rows' lines go before those of the records that follow
     module _ (e : a.outcome ≡ Ok tt) where
-      abbrev upto : List (List ℕ)
-      upto = l.passed ++ (b ∷ [])
+      abbrev upto : List Call
+      upto = l.passed ++ (Interval b ∷ [])
 
       split : all first r ≡ (l.put ++ rows_text a.tracker) ++ flatten (run_lines (opened_at first) upto others)
       split =

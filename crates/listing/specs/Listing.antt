@@ -5,7 +5,7 @@ use mathlib.Core.List.{List, [], ◌∷◌, ◌++◌, map, flatten}
 use Rattle.std.proofs.Math.Option.{Option, none, some}
 use Rattle.text.specs.Ascii.{ascii}
 use Rattle.text.specs.Text.{number_cell}
-use Rattle.tracker.specs.Promise.{Row, Refusal, number, Opening, opening, number_met, open_conditions, interval_conditions, awaited_from, of_directions, worked_from}
+use Rattle.tracker.specs.Promise.{Row, Refusal, number, Opening, opening, number_met, open_conditions, interval_conditions, awaited_from, of_directions, worked_from, Call, Interval}
 use Rattle.journal_rules.specs.declared.Contents.{Contents}
 use Rattle.journal_rules.specs.Journal.{most_records, read_of, records_of}
 use Rattle.journal_rules.specs.Survivors.{survivors}
@@ -35,12 +35,12 @@ if_listed r = cond (listed_of r) (line_of r ∷ []) []
 abbrev pub eight_rows : (ℕ → Row) → List (List ℕ)
 eight_rows rows = flatten (map if_listed (of_directions rows))
 
--- Records in their turn, after those that have passed: for each the printed ones of the eight rows worked out from the opening and the records
--- up to it. The first refused one, at the number which those before it await, ends the listing with its number.
-unfoldable pub run_lines : Opening → List (List ℕ) → List (List ℕ) → List (List ℕ)
+-- Records in their turn, each in an interval call, after the calls that have passed: for each the printed ones of the eight rows worked out from the
+-- opening and the calls up to it. The first refused one, at the number which those before it await, ends the listing with its number.
+unfoldable pub run_lines : Opening → List Call → List (List ℕ) → List (List ℕ)
 run_lines o passed [] = []
 run_lines o passed (b ∷ bs) =
-    let upto = passed ++ (b ∷ []) in
+    let upto = passed ++ (Interval b ∷ []) in
     call_lines (number_met (interval_conditions (awaited_from o passed) b)) (eight_rows (worked_from o upto)) (run_lines o upto bs)
 
 -- It opens at the journal's first n with all shares 500, and gives no settings (N2).

@@ -16,7 +16,7 @@ ghost use Rattle.listing.specs.Line.{names, name_of, amounts_of, line_of, listed
 ghost use Rattle.listing.specs.Internal.{row_text, rows_text};
 ghost use Rattle.listing.specs.Listing.{ended_by, opened_lines, record_lines, body_lines, input_lines, listing_of, listing_in, longest_listing, IsPrefixLen};
 
-use rules::{RECORD, Refusal, Row, Tracker};
+use rules::{MOST_RECORDS, RECORD, Refusal, Row, Tracker};
 use std::io;
 use std::io::{Read, Write};
 use units::Quantity;
@@ -28,7 +28,7 @@ const LONGEST_LINE: usize = 95;
 const HEADER: &[u8; 62] = b"interval,direction,applies,amount,previous,current,next,clamp\n";
 
 // How long the longest listing is, `longest_listing`: a header and 288 intervals of eight lines. A buffer needs no more.
-pub const ROOM: usize = HEADER.len() + journal::MOST_RECORDS * (8 * LONGEST_LINE);
+pub const ROOM: usize = HEADER.len() + MOST_RECORDS * (8 * LONGEST_LINE);
 
 // The directions' names, by the number that document 01 gives each.
 const NAMES: [&str; 8] = [

@@ -11,7 +11,9 @@ ghost use Rattle.journal_rules.specs.Journal.{read_of};
 ghost use Rattle.report.specs.Settings.{edges_in, direction_settings_in, settings_in};
 
 use readers::ControlView;
-use rules::{Answer, DirectionSettings, Notice, Period, RECORD, Row, Settings, Tracker};
+use rules::{
+    Answer, DirectionSettings, MOST_RECORDS, Notice, Period, RECORD, Row, Settings, Tracker,
+};
 use std::alloc::Alloc;
 use std::array::from_fn;
 use std::rt::{Env, Files};
@@ -142,7 +144,7 @@ pub fn print_refusal(rt: &impl Print, why: impl Into<u8>) -> io::Result<()> {
 }
 
 // As long as the most records of a journal are.
-const MOST_BYTES: usize = journal::MOST_RECORDS * RECORD;
+const MOST_BYTES: usize = MOST_RECORDS * RECORD;
 
 // All eight rows after each surviving record of a journal (N7), which the second call gives, up to a refusal. `Came` is what is asked of a tracker,
 // as in crate `tracker`.

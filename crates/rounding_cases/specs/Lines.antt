@@ -3,6 +3,7 @@ use Rattle.std.specs.Prelude.{List, [], ◌∷◌, ◌≡◌, ℕ}
 use Rattle.rules.specs.declared.Tracker.{Tracker}
 use Rattle.rules.specs.Market.{of_directions}
 use Rattle.rules.specs.Tracker.{Opening, opening, shares_of, open_of, after}
+use Rattle.rules.specs.Sets.{Interval}
 use Rattle.rules.specs.Claim.{accept_call}
 use Rattle.rules.specs.Figures.{halves, Compared, compared_at}
 use Rattle.rounding_cases.specs.Records as records
@@ -11,7 +12,7 @@ use Rattle.rounding_cases.specs.Stored as stored
 -- After each further call on the tracker t that the accepted records bs left.
 abbrev pub lines_from : Opening → Tracker → List (List ℕ) → List (List ℕ) → List (List Compared)
 lines_from o t bs [] = []
-lines_from o t bs (b ∷ calls) = of_directions (compared_at (shares_of o) (after t b) (accept_call o bs b)) ∷ lines_from o (after t b) (accept_call o bs b) calls
+lines_from o t bs (b ∷ calls) = of_directions (compared_at (shares_of o) (after t b) (accept_call o bs (Interval b))) ∷ lines_from o (after t b) (accept_call o bs (Interval b)) calls
 
 -- After each call of a list, of a tracker opened at first with all shares 500.
 abbrev pub lines_of : ℕ → List (List ℕ) → List (List Compared)

@@ -44,7 +44,8 @@ number_met_lem (c ∷ cs) = go c.met c.refusal (number_met_lem cs)
     go true k rest = refl
     go false k rest = rest
 
-is_accepted_lem : (o : Outcome) → is_accepted o ≡ true → o ≡ Ok tt
+-- What is accepted is so in one way.
+pub is_accepted_lem : (o : Outcome) → is_accepted o ≡ true → o ≡ Ok tt
 is_accepted_lem (Ok done) e = refl
 is_accepted_lem (Err k) e = absurd (false≢true e)
 

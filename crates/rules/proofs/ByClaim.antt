@@ -18,6 +18,7 @@ use Rattle.rules.specs.History.{sum_since, estimate, under_review, got_there, li
 use Rattle.rules.specs.Record.{record_number, residue, flag, next, event_of}
 use Rattle.rules.specs.Rounding.{span, assigned_of, assigned_span, unrounded}
 use Rattle.rules.specs.Tracker.{Opening, first_of, shares_of, settings_of, row_of}
+use Rattle.rules.specs.Sets.{Call}
 use Rattle.rules.specs.Claim.{awaited_after, accepted, history, worked_row, awaited_from, DirectionClaim, Claim}
 
 -- None of the last twelve accepted intervals of a history got there without review, under these settings.
@@ -61,7 +62,7 @@ module _ {o : Opening} {d : ℕ} {bs : List (List ℕ)} {r : Row} (claim : Direc
   none_in_span e = none_assigned (ap (assigned_of (shares_of o) d) e)
 
 -- The same of each of the eight rows of a tracker, from the claim of an opening and any list of calls.
-module _ (o : Opening) (calls : List (List ℕ)) (t : Tracker) (claim : Claim o calls t) (d : ℕ) (below : d < 8) where
+module _ (o : Opening) (calls : List Call) (t : Tracker) (claim : Claim o calls t) (d : ℕ) (below : d < 8) where
   abbrev own : List Event
   own = history o d (accepted o calls)
 

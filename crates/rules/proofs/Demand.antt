@@ -1,4 +1,4 @@
--- Demand 3, for every opening, with any settings (N2), every list of calls and every direction.
+-- Demand 3, for every opening, with any settings (N2), every list of calls, sets of intervals among them (N10), and every direction.
 -- Assumes nothing.
 use mathlib.Core.Path.{◌≡◌, refl, sym, ap, subst}
 use mathlib.Core.Bool.{Bool, true, false, not, cond}
@@ -15,7 +15,8 @@ use Rattle.rules.specs.Interval.{step_of}
 use Rattle.rules.specs.History.{state_after}
 use Rattle.rules.specs.Record.{event_of}
 use Rattle.rules.specs.Rounding.{Rounding}
-use Rattle.rules.specs.Tracker.{Opening, first_of, shares_of, settings_of, accepts, advanced, interval_of, after, row, row_of, run}
+use Rattle.rules.specs.Tracker.{Opening, first_of, shares_of, settings_of, accepts, advanced, interval_of, after, row, row_of}
+use Rattle.rules.specs.Sets.{Call, run_calls}
 use Rattle.rules.specs.Claim.{accepted, history, worked_row, DirectionClaim, ClaimOf, Claim}
 use Rattle.rules.proofs.AcceptedSettings.{settled, threshold_below}
 use Rattle.rules.proofs.PeriodInvariant.{recent_of}
@@ -68,5 +69,5 @@ module _ (o : Opening) (t : Tracker) (bs : List (List ℕ)) (r : Replays o t bs)
   pub claim_of : ClaimOf o bs t
   claim_of = record { awaits = r.awaits; eight = r.eight; hands_on = λ b n. refused t b (rw r.awaits n); each = λ d lt. direction d (omega arith) }
 
-pub demand3 : (o : Opening) (calls : List (List ℕ)) → Claim o calls (run o calls)
-demand3 o calls = claim_of o (run o calls) (accepted o calls) (replays o calls)
+pub demand3 : (o : Opening) (calls : List Call) → Claim o calls (run_calls o calls)
+demand3 o calls = claim_of o (run_calls o calls) (accepted o calls) (replays o calls)

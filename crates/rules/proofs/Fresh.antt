@@ -24,6 +24,7 @@ use Rattle.rules.specs.Interval.{clears_at, flag_of, next_of, step_of}
 use Rattle.rules.specs.Record.{u32_at, i32_at, prices, lines, pre_dispatch_prices, pre_dispatch_lines, event_of}
 use Rattle.rules.specs.Refusal.{each, bad_flags, bad_status, bad_price, bad_flow, pre_dispatch_zero, pre_dispatch_inside, bad_pre_dispatch, interval_conditions, interval_outcome, inside_spans, rising, open_conditions, open_outcome, row_conditions, row_outcome}
 use Rattle.rules.specs.Tracker.{Opening, opening, opens, open_of, step_all, advanced, interval_of, row_of, row_answer, run}
+use Rattle.rules.specs.Sets.{Call, run_calls}
 use Rattle.rules.specs.Claim.{history, worked_row}
 use Rattle.rules.specs.Figures.{halves, the_record}
 use Rattle.rules.proofs.Replay.{replays}
@@ -75,7 +76,7 @@ module _ (o : Opening) where
   refused_opening_lem e = rw e refl
 
   -- The calls after it keep its shares,
-  pub shares_kept : opens o ≡ true → (calls : List (List ℕ)) → (run o calls).shares ≡ o.shares
+  pub shares_kept : opens o ≡ true → (calls : List Call) → (run_calls o calls).shares ≡ o.shares
   shares_kept e calls = rw ((replays o calls).shares, e)
 
   -- and what they say of a direction follows from those.
@@ -84,7 +85,7 @@ module _ (o : Opening) where
   shares_used e d bs = rw e refl
 
   -- They keep its settings too (N2).
-  pub settings_kept : opens o ≡ true → (calls : List (List ℕ)) → (run o calls).settings ≡ o.settings
+  pub settings_kept : opens o ≡ true → (calls : List Call) → (run_calls o calls).settings ≡ o.settings
   settings_kept e calls = rw ((replays o calls).settings, e)
 
 -- ---- rows

@@ -19,6 +19,7 @@ use Rattle.rules.specs.Interval.{step_of}
 use Rattle.rules.specs.History.{state_after}
 use Rattle.rules.specs.Record.{prices, lines, pre_dispatch_prices, pre_dispatch_lines, residue, pre_dispatch_residue, grains_in, pre_dispatch_grains_in, event_of}
 use Rattle.rules.specs.Tracker.{Opening, shares_of, residue_shown}
+use Rattle.rules.specs.Sets.{Call}
 use Rattle.rules.specs.Claim.{accepted, history, worked_row, worked_from}
 use Rattle.rules.specs.Bounds.{WithinHalfCent}
 use Rattle.rules.proofs.CentsAndGrains.{alone, none_left, leftover_within}
@@ -46,7 +47,7 @@ record_together shares b c = (corridor_together (prices b) shares (lines b) c, c
 
 -- The rows of a corridor's two directions, worked out from one list: forward plus reverse cents, with their leftovers, make the grains that its
 -- lines have in the latest accepted record b (N8).
-module _ (o : Opening) (calls : List (List ℕ)) (b : List ℕ) (bs : List (List ℕ)) (latest : accepted o calls ≡ b ∷ bs) where
+module _ (o : Opening) (calls : List Call) (b : List ℕ) (bs : List (List ℕ)) (latest : accepted o calls ≡ b ∷ bs) where
   shown_residue : (d : ℕ) {r : Row} → r ≡ worked_from o calls d → residue_shown r ≡ residue (shares_of o) b d
   unfolding history worked_row event_of
   shown_residue d is = ap residue_shown (rw latest at is)

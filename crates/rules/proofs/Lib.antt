@@ -18,6 +18,9 @@ pub mod RowNotice
 pub mod Consecutive
 pub mod OneDirection
 pub mod Rounding
+pub mod EndToEnd
+pub mod Sets
+pub mod Lists
 pub mod Replay
 pub mod Fresh
 pub mod Refusals

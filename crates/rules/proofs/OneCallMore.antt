@@ -1,36 +1,43 @@
 -- One call more at the end of a list: the accepted records, the awaited number and the rows that are worked out then.
 -- Assumes nothing.
-use mathlib.Core.Path.{◌≡◌, refl, ap, ◌∙◌}
-use mathlib.Core.List.{List, [], ◌∷◌, ◌++◌, foldl-append}
+use mathlib.Core.Path.{◌≡◌, refl, sym, ap, ◌∙◌}
+use mathlib.Core.Bool.{true}
+use mathlib.Core.List.{List, [], ◌∷◌, ◌++◌, foldl, foldl-append, reverse}
 use Prim.Native.Nat.{ℕ, suc}
 use Rattle.std.specs.Prelude.{Ok, Err}
 use Rattle.rules.specs.declared.Refusal.{Refusal}
+use Rattle.rules.specs.declared.SetRefusal.{SetRefusal}
 use Rattle.rules.specs.declared.Event.{Event}
 use Rattle.rules.specs.declared.Settings.{Settings}
-use Rattle.rules.specs.Record.{record_number, event_of}
+use Rattle.rules.specs.Record.{record_number, records_in, event_of}
 use Rattle.rules.specs.Refusal.{is_accepted, judged, interval_conditions, interval_outcome}
-use Rattle.rules.specs.Tracker.{Opening, first_of, settings_of}
+use Rattle.rules.specs.Tracker.{Opening, first_of, settings_of, accepts}
+use Rattle.rules.specs.Sets.{outcome_in_turn, set_conditions, set_outcome, Call, Interval, Set, singly}
 use Rattle.rules.specs.Claim.{awaited_after, accept_call, accepted, history, worked_row, awaited_from, worked_from}
 use Rattle.rules.proofs.Accepted.{accepted_is}
+use Rattle.rules.proofs.Sets.{both_accepted}
+use Rattle.rules.proofs.Lists.{joined}
 
-module _ (o : Opening) (calls : List (List ℕ)) (b : List ℕ) where
-  abbrev longer : List (List ℕ)
-  longer = calls ++ (b ∷ [])
-
-  accepted_on : accepted o longer ≡ accept_call o (accepted o calls) b
+module _ (o : Opening) (calls : List Call) where
+  accepted_on : (more : List Call) → accepted o (calls ++ more) ≡ foldl (accept_call o) (accepted o calls) more
   unfolding accepted
-  accepted_on = foldl-append (accept_call o) [] calls (b ∷ [])
+  accepted_on more = foldl-append (accept_call o) [] calls more
+
+-- One interval call more.
+module _ (o : Opening) (calls : List Call) (b : List ℕ) where
+  abbrev longer : List Call
+  longer = calls ++ (Interval b ∷ [])
 
   -- Refused, it adds no record.
   pub refused_longer : {k : Refusal} → judged (interval_conditions (awaited_from o calls) b) ≡ Err k → accepted o longer ≡ accepted o calls
   unfolding accept_call interval_outcome
-  refused_longer e = accepted_on ∙ rw e
+  refused_longer e = accepted_on o calls (Interval b ∷ []) ∙ rw e
 
   module _ (ok : judged (interval_conditions (awaited_from o calls) b) ≡ Ok tt) where
     -- Accepted, it adds its own in front,
     pub accepted_longer : accepted o longer ≡ b ∷ accepted o calls
     unfolding accept_call interval_outcome
-    accepted_longer = accepted_on ∙ rw ok
+    accepted_longer = accepted_on o calls (Interval b ∷ []) ∙ rw ok
 
     in_turn : record_number b ≡ awaited_from o calls
     unfolding interval_outcome
@@ -44,6 +51,40 @@ module _ (o : Opening) (calls : List (List ℕ)) (b : List ℕ) where
     pub shows_awaited : (d : ℕ) → (worked_from o longer d).n ≡ awaited_from o calls
     unfolding history worked_row event_of
     shows_awaited d = ap (λ (bs : List (List ℕ)). (worked_row (settings_of o) (first_of o) d (history o d bs)).n) accepted_longer ∙ in_turn
+
+-- A set more (N10).
+module _ (o : Opening) (calls : List Call) (s : List ℕ) where
+  abbrev with_set : List Call
+  with_set = calls ++ (Set s ∷ [])
+
+  -- Refused, it adds nothing.
+  pub refused_set : {r : SetRefusal} → set_outcome (awaited_from o calls) s ≡ Err r → accepted o with_set ≡ accepted o calls
+  unfolding accept_call
+  refused_set e = accepted_on o calls (Set s ∷ []) ∙ rw e
+
+  module _ (ok : set_outcome (awaited_from o calls) s ≡ Ok tt) where
+    -- Accepted, it adds its records in front, the last of them first,
+    pub accepted_set : accepted o with_set ≡ reverse (records_in s) ++ accepted o calls
+    unfolding accept_call
+    accepted_set = accepted_on o calls (Set s ∷ []) ∙ rw ok
+
+    -- as its records do, each by a single call,
+    single_call : (bs : List (List ℕ)) (b : List ℕ) → accepts (awaited_after o bs) b ≡ true → accept_call o bs (Interval b) ≡ b ∷ bs
+    unfolding accept_call
+    single_call bs b e = rw e refl
+
+    single_calls : (rs bs : List (List ℕ)) (index : ℕ) → is_accepted (outcome_in_turn (awaited_after o bs) index rs) ≡ true → foldl (accept_call o) bs (singly rs) ≡ reverse rs ++ bs
+    unfolding outcome_in_turn
+    single_calls [] bs index e = refl
+    single_calls (b ∷ rs) bs index e =
+        let both = both_accepted (interval_outcome (awaited_after o bs) b) index _ e in
+        ap (λ (w : List (List ℕ)). foldl (accept_call o) w (singly rs)) (single_call bs b both.0) ∙ single_calls rs (b ∷ bs) (suc index) both.1 ∙ sym (joined b rs bs)
+
+    pub accepted_singly : accepted o with_set ≡ accepted o (calls ++ singly (records_in s))
+    unfolding set_outcome
+    accepted_singly =
+        let taken = both_accepted (judged (set_conditions s)) 0 (outcome_in_turn (awaited_from o calls) 0 (records_in s)) (ap is_accepted ok) in
+        accepted_set ∙ sym (accepted_on o calls (singly (records_in s)) ∙ single_calls (records_in s) (accepted o calls) 0 taken.1)
 
 -- a row has the direction that it is worked out for
 pub worked_direction : (set : Settings) (first d : ℕ) (es : List Event) → (worked_row set first d es).direction ≡ d

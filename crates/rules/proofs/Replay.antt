@@ -1,8 +1,8 @@
 -- The tracker is the accepted records replayed: what it keeps of a direction is what the rules make of that direction's history.
 -- Assumes nothing.
 use mathlib.Core.Path.{◌≡◌, refl, sym, ap, ◌∙◌, subst}
-use mathlib.Core.Bool.{Bool, true, false, not, cond}
-use mathlib.Core.List.{List, [], ◌∷◌, foldl}
+use mathlib.Core.Bool.{Bool, true, false, not}
+use mathlib.Core.List.{List, [], ◌∷◌}
 use Prim.Native.Nat.{ℕ, suc, ◌≤◌, ◌<◌}
 use native.Mathlib.Omega.{arith}
 use lib.Dec.{T}
@@ -16,16 +16,13 @@ use Rattle.rules.specs.Interval.{fresh, next_of, step_of}
 use Rattle.rules.specs.History.{state_after}
 use Rattle.rules.specs.Record.{record_number, present, pre_dispatch_residue, flag, event_of}
 use Rattle.rules.specs.Refusal.{highest_number}
-use Rattle.rules.specs.Tracker.{Opening, opens, first_of, shares_of, settings_of, open_of, blank, direction_of, step_all, advanced, accepts, interval_of, after, run}
-use Rattle.rules.specs.Claim.{awaited_after, accept_call, accepted, history}
+use Rattle.rules.specs.Tracker.{Opening, opens, first_of, shares_of, settings_of, open_of, blank, direction_of, step_all, advanced, accepts}
+use Rattle.rules.specs.Sets.{Call, run_calls}
+use Rattle.rules.specs.Claim.{awaited_after, accepted, history}
 use Rattle.rules.proofs.Accepted.{Sound, accepted_is, opened_is}
 use Rattle.rules.proofs.Directions.{at_direction}
+use Rattle.rules.proofs.Lists.{after_every_list}
 use Rattle.rules.proofs.Consecutive.{next_number, InTurn}
-
--- a relation that two steps keep, two folds keep
-pub fold_keeps : {A B C : Type 0} (R : A → B → Type 0) (f : A → C → A) (g : B → C → B) → ((a : A) (b : B) (c : C) → R a b → R (f a c) (g b c)) → (l : List C) (a : A) (b : B) → R a b → R (foldl f a l) (foldl g b l)
-fold_keeps R f g k [] a b r = r
-fold_keeps R f g k (c ∷ l) a b r = fold_keeps R f g k l (f a c) (g b c) (k a b c r)
 
 -- the eight directions are stepped alike
 module _ (set : Settings) (shares b : List ℕ) (ss : List Direction) where
@@ -89,26 +86,22 @@ module _ (o : Opening) where
   unfolding open_of history state_after
   start = record { awaits = refl; shows = refl; early = omega (arith, first_early); shares = refl; settings = refl; eight = refl; each = λ d h. get_or-replicate 8 d fresh blank h; turns = λ _. tt; sound = tt }
 
-  pub one : (t : Tracker) (bs : List (List ℕ)) (b : List ℕ) → Replays t bs → Replays (after t b) (accept_call o bs b)
-  unfolding interval_of accept_call history state_after advanced
-  one t bs b r = rw (← r.awaits) (go (accepts t.awaited b) refl)
-    where
-      go : (y : Bool) → accepts t.awaited b ≡ y → Replays (cond y (advanced t b) t) (cond y (b ∷ bs) bs)
-      go true e =
-          let sound = accepted_is t.awaited b e in
-          record {
-            awaits = refl;
-            shows = refl;
-            early = omega (arith, sound.in_range);
-            shares = r.shares;
-            settings = r.settings;
-            eight = eight_stepped t.settings t.shares b t.directions;
-            each = λ d lt. rw (step_at_lem t.settings t.shares b t.directions d lt, r.each d lt, r.shares, r.settings);
-            turns = λ d. (event_number (shares_of o) d b ∙ sound.in_turn ∙ r.awaits ∙ sym (next_is d bs), silent (shares_of o) d b, r.turns d);
-            sound = (subst (λ (a : ℕ). Sound a b) (sym sound.in_turn) sound, r.sound);
-          }
-      go false e = r
+  -- one accepted record more
+  pub more : (t : Tracker) (bs : List (List ℕ)) (b : List ℕ) → Replays t bs → accepts t.awaited b ≡ true → Replays (advanced t b) (b ∷ bs)
+  unfolding history state_after advanced
+  more t bs b r e =
+      let sound = accepted_is t.awaited b e in
+      record {
+        awaits = refl;
+        shows = refl;
+        early = omega (arith, sound.in_range);
+        shares = r.shares;
+        settings = r.settings;
+        eight = eight_stepped t.settings t.shares b t.directions;
+        each = λ d lt. rw (step_at_lem t.settings t.shares b t.directions d lt, r.each d lt, r.shares, r.settings);
+        turns = λ d. (event_number (shares_of o) d b ∙ sound.in_turn ∙ r.awaits ∙ sym (next_is d bs), silent (shares_of o) d b, r.turns d);
+        sound = (subst (λ (a : ℕ). Sound a b) (sym sound.in_turn) sound, r.sound);
+      }
 
-  pub replays : (calls : List (List ℕ)) → Replays (run o calls) (accepted o calls)
-  unfolding run accepted
-  replays calls = fold_keeps Replays after (accept_call o) one calls (open_of o).tracker [] start
+  pub replays : (calls : List Call) → Replays (run_calls o calls) (accepted o calls)
+  replays = after_every_list o Replays (λ t bs r. r.awaits) more start

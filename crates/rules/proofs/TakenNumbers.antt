@@ -1,8 +1,8 @@
 -- A tracker turns an n that it has taken away with 3, whatever else the record holds, a later issue too (N7): for every opening and list of calls.
 -- Assumes nothing.
-use mathlib.Core.Path.{◌≡◌, refl}
-use mathlib.Core.Bool.{Bool, true, false, cond}
-use mathlib.Core.List.{List, [], ◌∷◌, foldl}
+use mathlib.Core.Path.{◌≡◌}
+use mathlib.Core.Bool.{true, false}
+use mathlib.Core.List.{List, [], ◌∷◌}
 use Prim.Native.Nat.{ℕ, zero, suc, ◌≤◌, ◌<◌}
 use native.Mathlib.Omega.{arith}
 use borrow.Author.Tests.{eq-eqb, ne_eqb, le-ltb}
@@ -13,8 +13,11 @@ use Rattle.rules.specs.declared.Refusal.TheVariants.{NotAwaited}
 use Rattle.rules.specs.Record.{record_number}
 use Rattle.rules.specs.Refusal.{judged, highest_number, interval_conditions}
 use Rattle.rules.specs.Tracker.{Opening, accepts}
-use Rattle.rules.specs.Claim.{awaited_after, awaited_from, accept_call, accepted}
+use Rattle.rules.specs.Sets.{Call}
+use Rattle.rules.specs.Claim.{awaited_after, awaited_from, accepted}
 use Rattle.rules.proofs.Accepted.{accepted_is}
+use Rattle.rules.proofs.Lists.{after_every_list}
+use Rattle.rules.proofs.Replay.{Replays, more, start}
 
 -- n is below the awaited number, and in range.
 record Taken (awaited n : ℕ) : Type 0 where
@@ -25,30 +28,27 @@ abbrev AllTaken : Opening → List (List ℕ) → Type 0
 AllTaken o bs = (k : ℕ) → k < length bs → Taken (awaited_after o bs) (record_number (get_or bs k []))
 
 module _ (o : Opening) where
-  one_call : (bs : List (List ℕ)) (b : List ℕ) → AllTaken o bs → AllTaken o (accept_call o bs b)
-  unfolding accept_call
-  one_call bs b all = go (accepts (awaited_after o bs) b) refl
-    where
-      go : (t : Bool) → accepts (awaited_after o bs) b ≡ t → AllTaken o (cond t (b ∷ bs) bs)
-      go true e zero l = record { below = omega arith; in_range = (accepted_is (awaited_after o bs) b e).in_range }
-      go true e (suc k) l =
-          let t = all k (omega arith) in
-          record { below = omega (arith, t.below, (accepted_is (awaited_after o bs) b e).in_turn); in_range = t.in_range }
-      go false e k l = all k l
+  one_more : (bs : List (List ℕ)) (b : List ℕ) → AllTaken o bs → accepts (awaited_after o bs) b ≡ true → AllTaken o (b ∷ bs)
+  one_more bs b all e zero l = record { below = omega arith; in_range = (accepted_is (awaited_after o bs) b e).in_range }
+  one_more bs b all e (suc k) l =
+      let t = all k (omega arith) in
+      record { below = omega (arith, t.below, (accepted_is (awaited_after o bs) b e).in_turn); in_range = t.in_range }
 
-  all_taken : (calls bs : List (List ℕ)) → AllTaken o bs → AllTaken o (foldl (accept_call o) bs calls)
-  all_taken [] bs all = all
-  all_taken (b ∷ calls) bs all = all_taken calls (accept_call o bs b) (one_call bs b all)
+  all_taken : (calls : List Call) → AllTaken o (accepted o calls)
+  all_taken calls =
+      (after_every_list o (λ t bs. Replays o t bs × AllTaken o bs) (λ t bs r. r.0.awaits)
+      (λ t bs b r e. (more o t bs b r.0 e, one_more bs b r.1 (rw (← r.0.awaits) e)))
+      (start o, λ k l. absurd (omega arith)) calls).1
 
   -- A record c of the n of any accepted one.
-  pub already_taken : (calls : List (List ℕ)) (k : ℕ)
+  pub already_taken : (calls : List Call) (k : ℕ)
       → k < length (accepted o calls)
       → (c : List ℕ)
       → length c ≡ 168
       → record_number c ≡ record_number (get_or (accepted o calls) k [])
       → judged (interval_conditions (awaited_from o calls) c) ≡ Err NotAwaited
-  unfolding accepted interval_conditions
+  unfolding interval_conditions
   already_taken calls k l c whole same =
-      let t = all_taken calls [] (λ k l. absurd (omega arith)) k l in
+      let t = all_taken calls k l in
       let other : eqb (record_number c) (awaited_from o calls) ≡ false = ne_eqb (record_number c) (awaited_from o calls) (λ e. omega (arith, t.below)) in
       rw (eq-eqb (length c) 168 whole, le-ltb highest_number (record_number c) (omega (arith, t.in_range)), other)

@@ -1,6 +1,7 @@
--- Demand 3: a single claim about the whole list of interval calls, all its parts together. The last part of DirectionClaim, (rounding), is N9's.
+-- Demand 3: a single claim about the whole list of calls, all its parts together. The last part of DirectionClaim, (rounding), is N9's. In the list
+-- single intervals and sets are mixed (N10).
 use Rattle.std.specs.Prelude.{true, false, not, cond, ◌≡◌, ℕ, suc, ◌<◌, T, pos, length}
-use mathlib.Core.List.{List, [], ◌∷◌, foldl, map}
+use mathlib.Core.List.{List, [], ◌∷◌, ◌++◌, foldl, map, reverse}
 use Rattle.units.specs.Units.{cents, grains}
 use Rattle.rules.specs.declared.Event.{Event}
 use Rattle.rules.specs.declared.Tracker.{Tracker}
@@ -8,9 +9,10 @@ use Rattle.rules.specs.declared.Row.{Row}
 use Rattle.rules.specs.declared.Settings.{Settings}
 use Rattle.rules.specs.Interval.{fresh}
 use Rattle.rules.specs.History.{sum_since, got_there, under_review, GotThereWithin, lies_in, state_after}
-use Rattle.rules.specs.Record.{record_number, event_of}
+use Rattle.rules.specs.Record.{record_number, event_of, records_in}
 use Rattle.rules.specs.Rounding.{Rounding}
 use Rattle.rules.specs.Tracker.{Opening, first_of, shares_of, settings_of, accepts, row, row_of, after, run}
+use Rattle.rules.specs.Sets.{takes, Call, Interval, Set}
 
 -- Which calls are accepted follows from the opening and the records by numbers 1 to 8. The accepted records stand the latest first.
 -- The awaited number is the opening's first n, then one more than the latest accepted n.
@@ -18,11 +20,13 @@ abbrev pub awaited_after : Opening → List (List ℕ) → ℕ
 awaited_after o [] = first_of o
 awaited_after o (b ∷ bs) = suc (record_number b)
 
--- One call more: its record joins the accepted ones, or they stay as they were.
-unfoldable pub accept_call : Opening → List (List ℕ) → List ℕ → List (List ℕ)
-accept_call o bs b = cond (accepts (awaited_after o bs) b) (b ∷ bs) bs
+-- One call more: its record joins the accepted ones, or they stay as they were. An accepted set counts as its records, and a refused one as
+-- nothing (N10).
+unfoldable pub accept_call : Opening → List (List ℕ) → Call → List (List ℕ)
+accept_call o bs (Interval b) = cond (accepts (awaited_after o bs) b) (b ∷ bs) bs
+accept_call o bs (Set s) = cond (takes (awaited_after o bs) s) (reverse (records_in s) ++ bs) bs
 
-unfoldable pub accepted : Opening → List (List ℕ) → List (List ℕ)
+unfoldable pub accepted : Opening → List Call → List (List ℕ)
 accepted o calls = foldl (accept_call o) [] calls
 
 -- What accepted records say of direction d: r, flag and next follow from the shares and the accepted records.
@@ -37,10 +41,10 @@ worked_row set first d [] = row first d (cents (pos 0)) (cents (pos 0)) false tr
 worked_row set first d (e ∷ es) = row e.n d e.residue e.next e.blocked e.flag e.leftover (state_after set d (e ∷ es))
 
 -- From an opening and any list of calls, refused ones among them: the awaited number, and the row of direction d that document 01 works out.
-abbrev pub awaited_from : Opening → List (List ℕ) → ℕ
+abbrev pub awaited_from : Opening → List Call → ℕ
 awaited_from o calls = awaited_after o (accepted o calls)
 
-abbrev pub worked_from : Opening → List (List ℕ) → ℕ → Row
+abbrev pub worked_from : Opening → List Call → ℕ → Row
 worked_from o calls d = worked_row (settings_of o) (first_of o) d (history o d (accepted o calls))
 
 -- The claim about one direction d, after an opening and the accepted records bs: r is the tracker's row. All that the row is held to follows from
@@ -69,10 +73,11 @@ pub record ClaimOf (o : Opening) (bs : List (List ℕ)) (t : Tracker) : Type 0 w
   pub each : (d : ℕ) → d < 8 → DirectionClaim o d bs (row_of t d)
 
 -- The claim about an opening, any list of calls and the tracker t that they left.
-abbrev pub Claim : Opening → List (List ℕ) → Tracker → Type 0
+abbrev pub Claim : Opening → List Call → Tracker → Type 0
 Claim o calls t = ClaimOf o (accepted o calls) t
 
--- A tracker comes only from an opening and the calls after it.
+-- A tracker comes only from an opening and the calls after it. These are single ones: an accepted set's tracker is that of the single calls in
+-- order, and a refused one's is the tracker as before (N10).
 pub record Came (t : Tracker) : Type 0 where
   pub opening : Opening
   pub calls : List (List ℕ)

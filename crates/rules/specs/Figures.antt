@@ -23,6 +23,7 @@ use Rattle.rules.specs.Record.{residue}
 use Rattle.rules.specs.Refusal.{interval_outcome}
 use Rattle.rules.specs.Rounding.{span, assigned_span, unrounded, apart}
 use Rattle.rules.specs.Tracker.{Opening, opening, shares_of, residue_shown, row_answer, run}
+use Rattle.rules.specs.Sets.{singly}
 use Rattle.rules.specs.Claim.{accepted}
 
 -- All shares 500.
@@ -108,9 +109,9 @@ compared_at shares t bs d = record {
   assigned_intervals = length (assigned_span shares d bs);
 }
 
--- What N9 compares of direction d after an opening and any list of calls.
+-- What N9 compares of direction d after an opening and any list of interval calls.
 abbrev pub compared : Opening → List (List ℕ) → ℕ → Compared
-compared o calls d = compared_at (shares_of o) (run o calls) (accepted o calls) d
+compared o bs d = compared_at (shares_of o) (run o bs) (accepted o (singly bs)) d
 
 -- NSW1_QLD1 after the first six intervals of a half-hour at a QLD1 price of -1,200.
 abbrev pub tight : Compared

@@ -1,5 +1,6 @@
 -- Document 01, "Record, opening, row, journal": the 168 bytes of a record, and what they say of a direction.
-use Rattle.std.specs.Prelude.{Bool, cond, ◌&&◌, List, [], ◌∷◌, ℕ, ◌+◌, ◌*◌, ◌-◌, ◌/◌, ◌%◌, ◌^◌, eqb, ltb, ℤ, pos, get_or}
+use Rattle.std.specs.Prelude.{Bool, cond, ◌&&◌, List, [], ◌∷◌, ℕ, ◌+◌, ◌*◌, ◌-◌, ◌/◌, ◌%◌, ◌^◌, eqb, ltb, ℤ, pos, length, get_or, take, drop}
+use Rattle.std.specs.Simd.{first_chunks}
 use Rattle.signed.specs.Range.{minus}
 use Rattle.units.specs.declared.Cents.{Cents}
 use Rattle.units.specs.declared.Hundredths.{Hundredths}
@@ -156,3 +157,17 @@ event_of shares d b = record {
   blocked = blocked b d;
   target = target_sum b d;
 }
+
+-- Records end to end, as a journal holds them and a set of intervals has them (N10): how long one is, how many there are, record i, and all of
+-- them in a list. Bytes too few for a record are of none.
+abbrev pub record_length : ℕ
+record_length = 168
+
+abbrev pub record_count : List ℕ → ℕ
+record_count r = length r / record_length
+
+abbrev pub record_at : List ℕ → ℕ → List ℕ
+record_at r i = take record_length (drop (record_length * i) r)
+
+abbrev pub records_in : List ℕ → List (List ℕ)
+records_in r = first_chunks record_length (record_count r) r

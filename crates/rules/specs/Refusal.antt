@@ -1,5 +1,5 @@
 -- Document 01, "Refused calls".
-use Rattle.std.specs.Prelude.{Bool, true, false, not, cond, ◌&&◌, ◌||◌, List, [], ◌∷◌, ℕ, zero, suc, Result, Ok, Err, ◌+◌, ◌*◌, ◌/◌, eqb, leb, ltb, length, get_or}
+use Rattle.std.specs.Prelude.{Bool, true, false, not, cond, ◌&&◌, ◌||◌, List, [], ◌∷◌, ℕ, zero, suc, Result, Ok, Err, ◌+◌, ◌*◌, ◌/◌, ◌%◌, eqb, leb, ltb, length, get_or}
 use Rattle.std.proofs.Math.Option.{Option, none, some}
 use Rattle.std.specs.Int.Signed.{lt_z}
 use Rattle.units.specs.declared.Cents.{Cents}
@@ -11,7 +11,7 @@ use Rattle.rules.specs.declared.Settings.{Settings}
 use Rattle.rules.specs.Market.{price_ok, flow_ok, loss_ok}
 use Rattle.rules.specs.Settings.{threshold_ok, edge_at, edge_ok, step_for, step_ok, offset_ok, own_at}
 use Rattle.rules.specs.Interval.{place}
-use Rattle.rules.specs.Record.{u32_at, record_number, flags, present, status_byte, zero_bytes, price, metered, target, losses, pre_dispatch_price, pre_dispatch_flow, pre_dispatch_losses}
+use Rattle.rules.specs.Record.{u32_at, record_number, flags, present, status_byte, zero_bytes, price, metered, target, losses, pre_dispatch_price, pre_dispatch_flow, pre_dispatch_losses, record_length, record_count}
 
 -- The number of a refusal: document 01's, and N2's 19 and 20. There is no 18.
 abbrev pub number : Refusal → ℕ
@@ -44,7 +44,7 @@ abbrev pub number_of : {A : Type 0} → Result A Refusal → Option ℕ
 number_of (Ok given) = none
 number_of (Err why) = some (number why)
 
-abbrev pub is_accepted : Outcome → Bool
+abbrev pub is_accepted : {E : Type 0} → Result (Unit {0}) E → Bool
 is_accepted (Ok given) = true
 is_accepted (Err why) = false
 
@@ -164,6 +164,13 @@ open_conditions first shares set =
 
 unfoldable pub open_outcome : ℕ → List ℕ → Settings → Outcome
 open_outcome first shares set = judged (open_conditions first shares set)
+
+-- Journal write, and a set of intervals (N10): 15 length not a multiple of 168, or above 288 records.
+abbrev pub most_records : ℕ
+most_records = 288
+
+unfoldable pub bad_records : List ℕ → Bool
+bad_records r = not (eqb (length r % record_length) 0) || ltb most_records (record_count r)
 
 -- Row: 17 direction above 7.
 unfoldable pub row_conditions : ℕ → List Condition

@@ -4,7 +4,7 @@
 
 ghost use Rattle.std.specs.Prelude.{◌≡◌, [], ◌∷◌, Some};
 ghost use Rattle.rules.specs.Interval.{notice_number};
-ghost use Rattle.rules.specs.Refusal.{number, ◌when◌, judged};
+ghost use Rattle.rules.specs.Refusal.{number, ◌when◌, judged, bad_records};
 
 use units::{Cents, Grains, Hundredths};
 
@@ -13,6 +13,9 @@ pub const HIGHEST_NUMBER: u32 = 1_051_199;
 
 // The length of a record in bytes.
 pub const RECORD: usize = 168;
+
+// The most records of a journal, and of a set of intervals (N10).
+pub const MOST_RECORDS: usize = 288;
 
 // A clamp that limits nothing: document 01's "swamped", of which it gives the number.
 pub const SWAMPED: Hundredths = Hundredths(2_000_000);
@@ -235,11 +238,33 @@ impl From<Refusal> for u8 {
     }
 }
 
+// Are records end to end refused for their length, by a journal write or as a set of intervals (N10)?
+#[tactic(auto, unfolding(crate::specs::Refusal::bad_records))]
+pub fn bad_records(records: &[u8]) -> bool
+    ensures { result ≡ bad_records records.now }
+{
+    records.len() % RECORD != 0 || MOST_RECORDS < records.len() / RECORD
+}
+
 // The answer of an opening and of an interval call: how it ended, and beside that the tracker to go on with. It is a struct, and no `Result` that
 // holds the tracker, since document 01 gives one on a refusal too: "A refusal returns only its number, beside a tracker and buffers as they were".
 #[derive(Clone, Copy)]
 pub struct Answer {
     pub outcome: Result<(), Refusal>,
+    pub tracker: Tracker,
+}
+
+// Why a set of intervals is refused, and the index, from 0, of the first record that would not be accepted; of the set's length the index is 0 (N10).
+#[derive(Clone, Copy, PartialEq, Eq)]
+pub struct SetRefusal {
+    pub why: Refusal,
+    pub index: usize,
+}
+
+// The answer of the call of a set: how it ended, and beside that the tracker to go on with, as in an `Answer` (N10).
+#[derive(Clone, Copy)]
+pub struct SetAnswer {
+    pub outcome: Result<(), SetRefusal>,
     pub tracker: Tracker,
 }
 

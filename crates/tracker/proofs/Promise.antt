@@ -16,23 +16,28 @@ use Rattle.rules.specs.declared.Tracker.{Tracker}
 use Rattle.rules.specs.declared.Row.{Row}
 use Rattle.rules.specs.declared.Answer.{Answer}
 use Rattle.rules.specs.declared.RowAnswer.{RowAnswer}
+use Rattle.rules.specs.declared.SetAnswer.{SetAnswer}
 use Rattle.std.specs.Prelude.{Ok, Err}
 use Rattle.rules.specs.declared.Refusal.TheVariants.{NoDirection}
 use Rattle.rules.specs.Bounds.{RowBounds}
 use Rattle.rules.specs.Refusal.{number_of, is_accepted, judged, open_conditions, open_outcome, interval_conditions, interval_outcome, row_conditions, row_outcome}
 use Rattle.rules.specs.Residue.{together}
 use Rattle.rules.specs.Record.{grains_in}
-use Rattle.rules.specs.Tracker.{Opening, first_of, shares_of, settings_of, open_of, interval_of, residue_shown, row_of, no_row, row_answer, after, run}
+use Rattle.rules.specs.Tracker.{Opening, first_of, shares_of, settings_of, open_of, interval_of, residue_shown, row_of, no_row, row_answer}
+use Rattle.rules.specs.Sets.{number_and_index, set_outcome, set_of, Call, Interval, Set, after_call, run_calls, singly}
 use Rattle.rules.specs.History.{sum_since, estimate, under_review, lies_in}
 use Rattle.rules.specs.Rounding.{assigned_span, unrounded}
-use Rattle.rules.specs.Claim.{accepted, history, awaited_from, worked_from}
+use Rattle.rules.specs.Claim.{accepted, history, awaited_from, worked_from, Claim}
 use Rattle.rules.proofs.Came as rules
+use Rattle.rules.proofs.Sets.{set_met_lem, by_single_calls}
 use Rattle.rules.proofs.Replay.{replays}
 use Rattle.rules.proofs.StateBounds.{row_bounds}
 use Rattle.rules.proofs.CentsAndGrains.{none_left}
 use Rattle.rules.proofs.Leftover.{rows_together}
 pub use Rattle.signed.proofs.Calc.{inside}
 pub use Rattle.rules.proofs.EachBelow.{both_true, both_false, below_or_last, each_at, each_by, each_fails, each_none, each_one_more, each_up_to, each_same, each_item, each_number}
+pub use Rattle.rules.proofs.EndToEnd.{record_in, how_many}
+pub use Rattle.rules.proofs.Sets.{whole_records, only_whole_records, empty_set}
 pub use Rattle.rules.proofs.UnreadIssue.{under_issue, issue_unread}
 pub use Rattle.rules.proofs.TakenNumbers.{already_taken}
 pub use Rattle.rules.proofs.Directions.{at_direction}
@@ -41,8 +46,8 @@ pub use Rattle.rules.proofs.Accepted.{accepted_iff, number_met_lem}
 pub use Rattle.rules.proofs.FirstMet.{Passed, never, untested, pass, refused_at, accepted_past}
 pub use Rattle.rules.proofs.ByClaim.{NoCause, not_without_cause, clamped_at, amount_is, amount_near, none_assigned, none_in_span}
 pub use Rattle.rules.proofs.Refusals.{numbers}
-pub use Rattle.rules.proofs.OneCallMore.{refused_longer, accepted_longer, awaits_one_more, shows_awaited, worked_direction}
-use Rattle.tracker.specs.Promise.{Came, OpenPromise, CallAfter, IntervalPromise, RowPromise}
+pub use Rattle.rules.proofs.OneCallMore.{refused_longer, accepted_longer, awaits_one_more, shows_awaited, refused_set, accepted_set, accepted_singly, worked_direction}
+use Rattle.tracker.specs.Promise.{Came, OpenPromise, CallAfter, IntervalPromise, SetAfter, SetPromise, RowPromise}
 
 pub came_open : (o : Opening) → Came (open_of o).tracker
 came_open = rules.came_open
@@ -50,18 +55,25 @@ came_open = rules.came_open
 pub came_interval : (t : Tracker) → Came t → (b : List ℕ) → Came (interval_of t b).tracker
 came_interval = rules.came_after
 
+pub came_set : (t : Tracker) → Came t → (s : List ℕ) → Came (set_of t s).tracker
+came_set = rules.came_after_set
+
+-- What a list of calls left came from an opening and calls.
+pub came_ran : {t : Tracker} (o : Opening) (calls : List Call) → t ≡ run_calls o calls → Came t
+came_ran o calls q = rw q (rules.came_calls o calls)
+
 -- An accepted opening has the first n, the shares and the settings (N2) that were given.
 pub accepted_as_given : (o : Opening) → judged (open_conditions o.first o.shares o.settings) ≡ Ok tt → (first_of o ≡ o.first) × (shares_of o ≡ o.shares) × (settings_of o ≡ o.settings)
 unfolding open_outcome
 accepted_as_given o ok = (rw ok, rw ok, rw ok)
 
 -- A tracker keeps its settings (N2).
-pub keeps_settings : (t : Tracker) (o : Opening) (calls : List (List ℕ)) → t ≡ run o calls → t.settings ≡ settings_of o
+pub keeps_settings : (t : Tracker) (o : Opening) (calls : List Call) → t ≡ run_calls o calls → t.settings ≡ settings_of o
 keeps_settings t o calls q = rw q (replays o calls).settings
 
 -- what the equations of the calls bring with them
 pub open_promise : (o : Opening) {r : Answer} → r ≡ open_of o → OpenPromise o r
-unfolding run open_of open_outcome
+unfolding run_calls open_of open_outcome
 open_promise o e =
     rw e (record {
       is = refl;
@@ -71,23 +83,49 @@ open_promise o e =
       claim = rules.claim (open_of o).tracker o [] refl;
     })
 
-module _ (t : Tracker) (b : List ℕ) (o : Opening) (calls : List (List ℕ)) (q : t ≡ run o calls) where
-  run_longer : after t b ≡ run o (calls ++ (b ∷ []))
-  run_longer = ap (λ (x : Tracker). after x b) q ∙ rules.run_on o calls b
+module _ (t : Tracker) (o : Opening) (calls : List Call) (q : t ≡ run_calls o calls) where
+  run_longer : (call : Call) → after_call t call ≡ run_calls o (calls ++ (call ∷ []))
+  run_longer call = ap (λ (x : Tracker). after_call x call) q ∙ rules.run_call_on o calls call
 
-  call_after : CallAfter o calls b (interval_of t b)
+  longer : (call : Call) → Claim o (calls ++ (call ∷ [])) (after_call t call)
+  longer call = rules.claim (after_call t call) o (calls ++ (call ∷ [])) (run_longer call)
+
+  awaits : t.awaited ≡ awaited_from o calls
+  awaits = (rules.claim t o calls q).awaits
+
+  call_after : (b : List ℕ) → CallAfter o calls b (interval_of t b)
   unfolding interval_of interval_outcome
-  call_after =
-      let outcome = ap (λ (n : ℕ). judged (interval_conditions n b)) (rules.claim t o calls q).awaits in
+  call_after b =
+      let outcome = ap (λ (n : ℕ). judged (interval_conditions n b)) awaits in
       record {
         outcome = outcome;
         number = ap number_of outcome ∙ number_met_lem (interval_conditions (awaited_from o calls) b);
-        ran = run_longer;
-        claim = rules.claim (after t b) o (calls ++ (b ∷ [])) run_longer;
+        ran = run_longer (Interval b);
+        claim = longer (Interval b);
+      }
+
+  set_after : (s : List ℕ) → SetAfter o calls s (set_of t s)
+  unfolding set_of
+  set_after s =
+      let outcome = ap (λ (n : ℕ). set_outcome n s) awaits in
+      record {
+        outcome = outcome;
+        told = ap number_and_index outcome ∙ set_met_lem (awaited_from o calls) s;
+        ran = run_longer (Set s);
+        claim = longer (Set s);
       }
 
 pub interval_promise : (t : Tracker) → Came t → (b : List ℕ) {r : Answer} → r ≡ interval_of t b → IntervalPromise t b r
-interval_promise t came b e = rw e (record { is = refl; came = came_interval t came b; call = call_after t b })
+interval_promise t came b e = rw e (record { is = refl; came = came_interval t came b; call = λ o calls q. call_after t o calls q b })
+
+pub set_promise : (t : Tracker) → Came t → (s : List ℕ) {r : SetAnswer} → r ≡ set_of t s → SetPromise t s r
+set_promise t came s e =
+    rw e (record {
+      is = refl;
+      single_calls = by_single_calls t s;
+      came = came_set t came s;
+      call = λ o calls q. set_after t o calls q s;
+    })
 
 -- the row of a direction that is there is shown
 pub row_shown_lem : (t : Tracker) (d : ℕ) → d < 8 → (row_answer t d).row ≡ row_of t d
@@ -132,12 +170,12 @@ row_promise t came d e =
 pub row_direction : {t : Tracker} {d : ℕ} {r : RowAnswer} → Came t → RowPromise t d r → d < 8 → r.row.direction ≡ d
 row_direction {d = d} came row l =
     let o = came.opening in
-    let calls = came.calls in
-    ap (λ (x : Row). x.direction) (row.claim o calls came.is (omega arith)).is_worked ∙ worked_direction (settings_of o) (first_of o) d (history o d (accepted o calls))
+    let calls = singly came.calls in
+    ap (λ (x : Row). x.direction) (row.claim o calls (rules.came_singly came) (omega arith)).is_worked ∙ worked_direction (settings_of o) (first_of o) d (history o d (accepted o calls))
 
 -- After an accepted call a row has the n that was awaited. (The next awaited number is one more: `awaits_one_more`.)
-pub row_number : {t : Tracker} {b : List ℕ} {a : Answer} {d : ℕ} {r : RowAnswer} (o : Opening) (calls : List (List ℕ))
-    → t ≡ run o calls
+pub row_number : {t : Tracker} {b : List ℕ} {a : Answer} {d : ℕ} {r : RowAnswer} (o : Opening) (calls : List Call)
+    → t ≡ run_calls o calls
     → IntervalPromise t b a
     → a.outcome ≡ Ok tt
     → RowPromise a.tracker d r
@@ -145,16 +183,16 @@ pub row_number : {t : Tracker} {b : List ℕ} {a : Answer} {d : ℕ} {r : RowAns
     → r.row.n ≡ awaited_from o calls
 row_number {b = b} {d = d} o calls q call ok row l =
     let after = call.call o calls q in
-    ap (λ (x : Row). x.n) (row.claim o (calls ++ (b ∷ [])) after.ran (omega arith)).is_worked ∙ shows_awaited o calls b (sym after.outcome ∙ ok) d
+    ap (λ (x : Row). x.n) (row.claim o (calls ++ (Interval b ∷ [])) after.ran (omega arith)).is_worked ∙ shows_awaited o calls b (sym after.outcome ∙ ok) d
 
 -- Every row that is worked out from an opening and a list of calls is bounded.
-pub worked_bounds : (o : Opening) (calls : List (List ℕ)) (d : ℕ) → d < 8 → RowBounds (worked_from o calls d)
+pub worked_bounds : (o : Opening) (calls : List Call) (d : ℕ) → d < 8 → RowBounds (worked_from o calls d)
 worked_bounds o calls d l =
-    let row = row_promise (run o calls) (record { opening = o; calls = calls; is = refl }) d refl in
+    let row = row_promise (run_calls o calls) (came_ran o calls refl) d refl in
     subst RowBounds (row.claim o calls refl l).is_worked row.bounded
 
 -- What a row returned says to a caller whose own opening and list of calls led to the tracker; es is the history of the row's direction.
-module _ {t : Tracker} {d : ℕ} {r : RowAnswer} (promise : RowPromise t d r) (o : Opening) (calls : List (List ℕ)) (q : t ≡ run o calls) (below : d < 8) where
+module _ {t : Tracker} {d : ℕ} {r : RowAnswer} (promise : RowPromise t d r) (o : Opening) (calls : List Call) (q : t ≡ run_calls o calls) (below : d < 8) where
   abbrev es : List Event
   es = history o d (accepted o calls)
 
@@ -180,7 +218,7 @@ pub corridor_rows : {t : Tracker} {c : ℕ} {forward back : RowAnswer}
     → RowPromise t (2 * c) forward
     → RowPromise t (2 * c + 1) back
     → c < 4
-    → (o : Opening) (calls : List (List ℕ)) → t ≡ run o calls
+    → (o : Opening) (calls : List Call) → t ≡ run_calls o calls
     → (b : List ℕ) (bs : List (List ℕ)) → accepted o calls ≡ b ∷ bs
     → together (residue_shown forward.row) (residue_shown back.row) ≡ grains_in (shares_of o) b c
 corridor_rows {c = c} f g below o calls q b bs latest =

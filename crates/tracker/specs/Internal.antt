@@ -1,13 +1,18 @@
 -- What the functions below the calls are asked and give.
-use Rattle.std.specs.Prelude.{false, List, ℕ, ◌<◌, pos, get_or}
+use Rattle.std.specs.Prelude.{false, ℕ, ◌<◌, pos, get_or, Result, Ok, Err}
+use mathlib.Core.List.{List, foldl}
 use Rattle.units.specs.Units.{cents, hundredths, grains}
 use Rattle.rules.specs.declared.Direction.{Direction}
 use Rattle.rules.specs.declared.Status.TheVariants.{Unbound}
 use Rattle.rules.specs.declared.Event.{Event}
 use Rattle.rules.specs.declared.Settings.{Settings}
+use Rattle.rules.specs.declared.SetRefusal.{SetRefusal}
+use Rattle.rules.specs.declared.Tracker.{Tracker}
 use Rattle.rules.specs.Interval.{step_of}
 use Rattle.rules.specs.Market.{of_directions}
-use Rattle.rules.specs.Tracker.{blank}
+use Rattle.rules.specs.Record.{records_in}
+use Rattle.rules.specs.Tracker.{blank, after}
+use Rattle.rules.specs.Sets.{SetOutcome, set_outcome}
 use Rattle.step.specs.Internal.{Steppable}
 
 -- stands where a list of events ends
@@ -34,3 +39,11 @@ stepped set events ss d = step_of set d (get_or events d no_event) (get_or ss d 
 
 abbrev pub all_stepped : Settings → List Event → List Direction → List Direction
 all_stepped set events ss = of_directions (stepped set events ss)
+
+-- the tracker after all records of a set, or why it is refused (N10)
+abbrev pub taken_or : SetOutcome → Tracker → Result Tracker SetRefusal
+taken_or (Ok done) t = Ok t
+taken_or (Err r) t = Err r
+
+abbrev pub taken_by : Tracker → List ℕ → Result Tracker SetRefusal
+taken_by t s = taken_or (set_outcome t.awaited s) (foldl after t (records_in s))

@@ -31,10 +31,21 @@ pub use Rattle.rules.specs.Record.{byte_at, record_number, issue}
 pub use Rattle.rules.specs.Refusal.{number, Outcome, number_of, is_accepted, Condition, ◌when◌, judged, number_met}
 unfoldable pub use Rattle.rules.specs.Refusal.{each}
 unfoldable pub use Rattle.rules.specs.Refusal.{open_conditions, interval_conditions, row_conditions}
--- the calls, a list of them from an opening, and that a tracker came from such a list
+-- the calls, a list of interval calls from an opening, and that a tracker came from such a list
 pub use Rattle.rules.specs.Tracker.{Opening, opening_with, opening, first_of, shares_of, settings_of, accepts, open_of, interval_of, row_of, no_row, row_answer, after}
 unfoldable pub use Rattle.rules.specs.Tracker.{run}
 pub use Rattle.rules.specs.Claim.{Came}
+-- a set of intervals (N10): its records end to end, which a journal has too, how it ends, and the same said by the single calls
+pub use Rattle.rules.specs.Record.{record_length, record_count, record_at, records_in}
+pub use Rattle.rules.specs.Refusal.{most_records}
+unfoldable pub use Rattle.rules.specs.Refusal.{bad_records}
+pub use Rattle.rules.specs.declared.SetRefusal.{SetRefusal}
+pub use Rattle.rules.specs.declared.SetAnswer.{SetAnswer}
+pub use Rattle.rules.specs.Sets.{SetOutcome, number_and_index, refused_at, else_rest, else_met, takes, set_of, turn_of, AcceptedInTurn, BySingleCalls}
+unfoldable pub use Rattle.rules.specs.Sets.{outcome_in_turn, set_conditions, set_outcome, met_in_turn, set_met}
+-- a list of calls from an opening, in which single intervals and sets are mixed (N10)
+pub use Rattle.rules.specs.Sets.{Call, Interval, Set, after_call, singly}
+unfoldable pub use Rattle.rules.specs.Sets.{run_calls}
 -- what follows from an opening and records alone: the accepted ones, the awaited number, the history of a direction, its row
 pub use Rattle.rules.specs.declared.Event.{Event}
 pub use Rattle.rules.specs.Record.{event_of}
@@ -69,22 +80,39 @@ pub record OpenPromise (o : Opening) (r : Answer) : Type 0 where
   pub is : r ≡ open_of o
   pub number : number_of r.outcome ≡ number_met (open_conditions o.first o.shares o.settings)
   pub came : Came r.tracker
-  pub ran : r.tracker ≡ run o []
+  pub ran : r.tracker ≡ run_calls o []
   pub claim : Claim o [] r.tracker
 
 -- The call of a record b after a list of calls from an opening: its outcome is that of numbers 1 to 8 at the number which they await, the
 -- tracker returned is the run of that list with this call at its end, and the claim of the longer list holds of it.
-pub record CallAfter (o : Opening) (calls : List (List ℕ)) (b : List ℕ) (r : Answer) : Type 0 where
+pub record CallAfter (o : Opening) (calls : List Call) (b : List ℕ) (r : Answer) : Type 0 where
   pub outcome : r.outcome ≡ judged (interval_conditions (awaited_from o calls) b)
   pub number : number_of r.outcome ≡ number_met (interval_conditions (awaited_from o calls) b)
-  pub ran : r.tracker ≡ run o (calls ++ (b ∷ []))
-  pub claim : Claim o (calls ++ (b ∷ [])) r.tracker
+  pub ran : r.tracker ≡ run_calls o (calls ++ (Interval b ∷ []))
+  pub claim : Claim o (calls ++ (Interval b ∷ [])) r.tracker
 
--- An interval call on a tracker t returns what document 01 says, and it is the call after every opening and list that led to t.
+-- An interval call on a tracker t returns what document 01 says, and it is the call after every opening and list, sets among its calls (N10), that
+-- led to t.
 pub record IntervalPromise (t : Tracker) (b : List ℕ) (r : Answer) : Type 0 where
   pub is : r ≡ interval_of t b
   pub came : Came r.tracker
-  pub call : (o : Opening) (calls : List (List ℕ)) → t ≡ run o calls → CallAfter o calls b r
+  pub call : (o : Opening) (calls : List Call) → t ≡ run_calls o calls → CallAfter o calls b r
+
+-- The call of a set s (N10) after a list of calls from an opening: it ends as its records do in their turn, from the number which they await on,
+-- or with 15; the tracker returned is the run of that list with this call at its end, and the claim of the longer list holds of it.
+pub record SetAfter (o : Opening) (calls : List Call) (s : List ℕ) (r : SetAnswer) : Type 0 where
+  pub outcome : r.outcome ≡ set_outcome (awaited_from o calls) s
+  pub told : number_and_index r.outcome ≡ set_met (awaited_from o calls) s
+  pub ran : r.tracker ≡ run_calls o (calls ++ (Set s ∷ []))
+  pub claim : Claim o (calls ++ (Set s ∷ [])) r.tracker
+
+-- The call of a set on a tracker t returns what document 02 says, also as the single calls of its records say it, and it is the call after every
+-- opening and list, of single intervals and sets, that led to t.
+pub record SetPromise (t : Tracker) (s : List ℕ) (r : SetAnswer) : Type 0 where
+  pub is : r ≡ set_of t s
+  pub single_calls : BySingleCalls t s r.outcome
+  pub came : Came r.tracker
+  pub call : (o : Opening) (calls : List Call) → t ≡ run_calls o calls → SetAfter o calls s r
 
 -- A row call returns what document 01 says, and demand 3 holds of the row returned, in all its parts, N9's among them, for every opening and list
 -- that led to t.
@@ -92,7 +120,7 @@ pub record RowPromise (t : Tracker) (d : ℕ) (r : RowAnswer) : Type 0 where
   pub is : r ≡ row_answer t d
   pub number : number_of r.outcome ≡ number_met (row_conditions d)
   pub bounded : RowBounds r.row
-  pub claim : (o : Opening) (calls : List (List ℕ))
-      → t ≡ run o calls
+  pub claim : (o : Opening) (calls : List Call)
+      → t ≡ run_calls o calls
       → d < 8
       → DirectionClaim o d (accepted o calls) r.row

@@ -1,4 +1,4 @@
-// The clamp tracker: two openings, an interval call and a row. What each returns, for every input, is in specs/Promise.
+// The clamp tracker: two openings, calls of one interval and of a set of them, and a row. What each returns, for every input, is in specs/Promise.
 
 #![tactic(auto)]
 
@@ -6,12 +6,13 @@ ghost use Rattle.std.specs.Prelude.{true, ◌≡◌, ◌<◌, replicate};
 ghost use Rattle.rules.specs.Interval.{fresh};
 ghost use Rattle.rules.specs.Refusal.{each, share_ok, open_outcome};
 ghost use Rattle.rules.specs.Tracker.{tracker, accepts, advanced, row_of};
-ghost use Rattle.tracker.specs.Promise.{Came, OpenPromise, IntervalPromise, RowPromise, opening_with, opening};
-ghost use Rattle.tracker.specs.Internal.{AllSteppable, all_stepped};
+ghost use Rattle.tracker.specs.Promise.{Came, OpenPromise, IntervalPromise, SetPromise, RowPromise, opening_with, opening};
+ghost use Rattle.tracker.specs.Internal.{AllSteppable, all_stepped, taken_by};
 
 use record::Record;
 use rules::{
-    Answer, Direction, Event, HIGHEST_NUMBER, Refusal, Row, RowAnswer, SWAMPED, Settings, Tracker,
+    Answer, Direction, Event, HIGHEST_NUMBER, RECORD, Refusal, Row, RowAnswer, SWAMPED, SetAnswer,
+    SetRefusal, Settings, Tracker,
 };
 
 // Is no share above 1000?
@@ -115,6 +116,47 @@ pub fn interval(tracker: Tracker, bytes: &[u8]) -> Answer
         },
         Err(why) => Answer {
             outcome: Err(why),
+            tracker,
+        },
+    }
+}
+
+// The tracker after all records of a set in their turn, each taken by a single call; or the number and the index of the first that is not accepted.
+// 15 comes before any record is looked at.
+fn all_taken(tracker: Tracker, bytes: &[u8]) -> Result<Tracker, SetRefusal>
+    requires { Came tracker }
+    ensures { result ≡ taken_by tracker bytes.now }
+{
+    if rules::bad_records(bytes) {
+        return Err(SetRefusal {
+            why: Refusal::BadRecords,
+            index: 0,
+        });
+    }
+    let mut now = tracker;
+    let records = bytes.as_chunks::<RECORD>().0;
+    for (index, record) in records.iter().enumerate() {
+        let answer = interval(now, record);
+        if let Err(why) = answer.outcome {
+            return Err(SetRefusal { why, index });
+        }
+        now = answer.tracker;
+    }
+    Ok(now)
+}
+
+// Takes a set of 0 to 288 records end to end, all or none (N10). A refused set leaves the tracker as it was, as a refused interval does.
+pub fn set_of_intervals(tracker: Tracker, bytes: &[u8]) -> SetAnswer
+    requires { Came tracker }
+    ensures { SetPromise tracker bytes.now result }
+{
+    match all_taken(tracker, bytes) {
+        Ok(now) => SetAnswer {
+            outcome: Ok(()),
+            tracker: now,
+        },
+        Err(refused) => SetAnswer {
+            outcome: Err(refused),
             tracker,
         },
     }

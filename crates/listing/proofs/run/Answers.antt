@@ -2,7 +2,7 @@
 use Rattle.std.proofs.Common.{◌∙◌}
 use Rattle.journal_rules.specs.Survivors.{survivors}
 use Rattle.listing.proofs.LinesByCase.{unopened}
-use Rattle.listing.proofs.SoFar.{started, refusal_room, refusal_put, rows_room, rows_put, ended}
+use Rattle.listing.proofs.SoFar.{started, came, refusal_room, refusal_put, rows_room, rows_put, ended}
 use Rattle.listing.proofs.run.Goals as goal
 
 pub refused-requires : goal.refused-requires
@@ -21,6 +21,9 @@ loop-bytes-init c = (
   tt,
   started (c.into_iter-bytes-iterator.ensures.into_iter_gives ∙ c.among-bytes-items.ensures.survivors c.requires.0) c.open-opened.ensures c.in_default.is c.args.out.now,
 )
+
+pub interval-answer-requires : goal.interval-answer-requires
+interval-answer-requires c = came c.loop-bytes.invariant.2
 
 pub refused-requires-in-Err-outcome : goal.refused-requires-in-Err-outcome
 refused-requires-in-Err-outcome c = refusal_room c.loop-bytes.invariant.2 c.in-Some.ensures.steps c.interval-answer.ensures c.in-Err-outcome.is c.requires.1
