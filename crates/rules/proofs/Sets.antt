@@ -1,6 +1,7 @@
--- A set of intervals (N10) is what its single calls in their turn are; and a list of interval calls alone is a list of calls.
+-- A set of intervals (N10) ends as its single calls in their turn say.
 -- Assumes nothing.
-use mathlib.Core.Path.{◌≡◌, refl, ap, ◌∙◌}
+use mathlib.Core.Option.{some, some_inj}
+use mathlib.Core.Path.{◌≡◌, refl, sym, ap, ◌∙◌}
 use mathlib.Core.Bool.{true, false, not, false≢true}
 use mathlib.Core.List.{List, [], ◌∷◌, foldl}
 use Prim.Native.Nat.{ℕ, zero, suc, ◌+◌, ◌*◌, ◌%◌, ◌≤◌, ◌<◌}
@@ -11,12 +12,13 @@ use lib.ListN.{length, take, drop, drop_of_length-le}
 use lib.Seq.{drop-cons}
 use Rattle.std.specs.Prelude.{Ok, Err}
 use Rattle.rules.specs.declared.Refusal.{Refusal}
+use Rattle.rules.specs.declared.Refusal.TheVariants.{BadRecords}
 use Rattle.rules.specs.declared.Tracker.{Tracker}
 use Rattle.rules.specs.Record.{record_number, record_length, record_count, records_in}
-use Rattle.rules.specs.Refusal.{Outcome, number_of, is_accepted, judged, most_records, bad_records, interval_conditions, interval_outcome}
+use Rattle.rules.specs.Refusal.{Outcome, number_of, is_accepted, most_records, bad_records, interval_outcome}
 use Rattle.rules.specs.Tracker.{accepts, advanced, interval_of, after}
-use Rattle.rules.specs.Sets.{SetOutcome, number_and_index, refused_at, else_rest, else_met, met_in_turn, set_met, outcome_in_turn, set_conditions, set_outcome, set_of, turn_of, AcceptedInTurn, BySingleCalls}
-use Rattle.rules.proofs.Accepted.{is_accepted_lem, number_met_lem}
+use Rattle.rules.specs.Sets.{SetOutcome, number_and_index, refused_at, else_rest, outcome_in_turn, set_conditions, set_outcome, set_of, turn_of, AcceptedInTurn, BySingleCalls}
+use Rattle.rules.proofs.Accepted.{is_accepted_lem}
 use Rattle.rules.proofs.EachBelow.{both_false}
 use Rattle.rules.proofs.EndToEnd.{how_many}
 
@@ -63,25 +65,6 @@ each_in_turn t index (b ∷ bs) e (suc i) h =
     let both = both_accepted (interval_outcome t.awaited b) index _ e in
     each_in_turn (after t b) (suc index) bs (rw (awaits_next t b both.0) both.1) i (omega arith)
 
--- ---- numbers
--- The number and the index of an outcome are those of the first condition met.
-of_first : (o : Outcome) (index : ℕ) (rest : SetOutcome) → number_and_index (else_rest o index rest) ≡ else_met (number_of o) index (number_and_index rest)
-of_first (Ok done) index rest = refl
-of_first (Err why) index rest = refl
-
-met_lem : (awaited index : ℕ) (bs : List (List ℕ)) → number_and_index (outcome_in_turn awaited index bs) ≡ met_in_turn awaited index bs
-unfolding outcome_in_turn interval_outcome met_in_turn
-met_lem awaited index [] = refl
-met_lem awaited index (b ∷ bs) =
-    of_first (judged (interval_conditions awaited b)) index _
-    ∙ rw (number_met_lem (interval_conditions awaited b), met_lem (suc (record_number b)) (suc index) bs) refl
-
-pub set_met_lem : (awaited : ℕ) (s : List ℕ) → number_and_index (set_outcome awaited s) ≡ set_met awaited s
-unfolding set_outcome set_met
-set_met_lem awaited s =
-    of_first (judged (set_conditions s)) 0 (outcome_in_turn awaited 0 (records_in s))
-    ∙ rw (number_met_lem (set_conditions s), met_lem awaited 0 (records_in s)) refl
-
 -- ---- a set's length, as a journal's records have it
 module _ (s : List ℕ) where
   -- 0 to 288 whole records are taken,
@@ -103,27 +86,49 @@ empty_set t = refl
 
 -- ---- a set
 module _ (t : Tracker) (s : List ℕ) where
-  abbrev bs : List (List ℕ)
-  bs = records_in s
+  -- Of a wrong length it is refused,
+  pub refused_length : bad_records s ≡ true → set_outcome t.awaited s ≡ refused_at 0 BadRecords
+  unfolding set_conditions set_outcome
+  refused_length bad = rw bad refl
 
-  -- all of its records accepted in their turn
-  all_taken : AcceptedInTurn t bs (record_count s) → outcome_in_turn t.awaited 0 bs ≡ Ok tt
-  unfolding outcome_in_turn
-  all_taken all =
-      let none : drop (record_count s) bs ≡ [] = drop_of_length-le bs (omega (arith, how_many s)) in
-      left_to (record_count s) t 0 bs (omega (arith, how_many s)) all ∙ rw none refl
+  module _ (whole : bad_records s ≡ false) where
+    -- and else its records decide:
+    by_records : set_outcome t.awaited s ≡ outcome_in_turn t.awaited 0 (records_in s)
+    unfolding set_conditions set_outcome
+    by_records = rw whole refl
 
-  -- the first that is not
-  first_not : (i : ℕ) → i < record_count s → AcceptedInTurn t bs i → (why : Refusal) → turn_of t bs i ≡ Err why → outcome_in_turn t.awaited 0 bs ≡ refused_at i why
-  unfolding outcome_in_turn interval_of
-  first_not i l all why e =
-      let z : 0 + i ≡ i = omega arith in
-      left_to i t 0 bs (omega (arith, how_many s)) all ∙ rw (z, drop-cons bs i [] (omega (arith, how_many s)), e) refl
+    -- the first that is refused in its turn,
+    pub refused_record : (i : ℕ) → i < record_count s → AcceptedInTurn t (records_in s) i → (why : Refusal) → turn_of t (records_in s) i ≡ Err why → set_outcome t.awaited s ≡ refused_at i why
+    unfolding outcome_in_turn interval_of
+    refused_record i l all why e =
+        let bs = records_in s in
+        let z : 0 + i ≡ i = omega arith in
+        by_records ∙ left_to i t 0 bs (omega (arith, how_many s)) all ∙ rw (z, drop-cons bs i [] (omega (arith, how_many s)), e) refl
+
+    -- or none.
+    pub none_refused : AcceptedInTurn t (records_in s) (record_count s) → set_outcome t.awaited s ≡ Ok tt
+    unfolding outcome_in_turn
+    none_refused all =
+        let bs = records_in s in
+        let none : drop (record_count s) bs ≡ [] = drop_of_length-le bs (omega (arith, how_many s)) in
+        by_records ∙ left_to (record_count s) t 0 bs (omega (arith, how_many s)) all ∙ rw none refl
+
+    -- Accepted, it has none.
+    all_accepted : set_outcome t.awaited s ≡ Ok tt → AcceptedInTurn t (records_in s) (record_count s)
+    all_accepted e i l = each_in_turn t 0 (records_in s) (ap is_accepted (sym by_records ∙ e)) i (omega (arith, how_many s))
+
+    -- The number that the first refused one has in its turn is the set's, with its index.
+    first_number : (i k : ℕ) → i < record_count s → AcceptedInTurn t (records_in s) i → number_of (turn_of t (records_in s) i) ≡ some k → number_and_index (set_outcome t.awaited s) ≡ some (k, i)
+    first_number i k l all n = go (turn_of t (records_in s) i) refl n
+      where
+        go : (o : Outcome) → turn_of t (records_in s) i ≡ o → number_of o ≡ some k → number_and_index (set_outcome t.awaited s) ≡ some (k, i)
+        go (Ok done) e n = cc
+        go (Err why) e n = ap number_and_index (refused_record i l all why e) ∙ ap (λ (k : ℕ). some (k, i)) (some_inj.0 n)
 
   pub by_single_calls : BySingleCalls t s (set_of t s).outcome
-  unfolding set_of set_outcome set_conditions
+  unfolding set_of
   by_single_calls = record {
-    first_length = λ bad. rw bad refl;
-    all_or_none = λ whole. rw whole (λ e i l. each_in_turn t 0 bs (ap is_accepted e) i (omega (arith, how_many s)), all_taken);
-    first_refused = λ whole i l all why e. rw whole (first_not i l all why e);
+    first_length = λ bad. ap number_and_index (refused_length bad);
+    all_or_none = λ whole. (all_accepted whole, none_refused whole);
+    first_refused = first_number;
   }

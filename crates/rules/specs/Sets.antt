@@ -8,7 +8,7 @@ use Rattle.rules.specs.declared.SetRefusal.{SetRefusal}
 use Rattle.rules.specs.declared.SetAnswer.{SetAnswer}
 use Rattle.rules.specs.declared.Tracker.{Tracker}
 use Rattle.rules.specs.Record.{record_number, record_count, records_in}
-use Rattle.rules.specs.Refusal.{number, Outcome, is_accepted, Condition, ◌when◌, judged, number_met, bad_records, interval_conditions, interval_outcome}
+use Rattle.rules.specs.Refusal.{number, Outcome, number_of, is_accepted, Condition, ◌when◌, judged, bad_records, interval_outcome}
 use Rattle.rules.specs.Tracker.{Opening, open_of, interval_of, after}
 
 -- ---- a set
@@ -43,18 +43,6 @@ set_conditions s = BadRecords when bad_records s ∷ []
 unfoldable pub set_outcome : ℕ → List ℕ → SetOutcome
 set_outcome awaited s = else_rest (judged (set_conditions s)) 0 (outcome_in_turn awaited 0 (records_in s))
 
--- The same as a number and an index: those of the first condition met, or none.
-abbrev pub else_met : Option ℕ → ℕ → Option (ℕ × ℕ) → Option (ℕ × ℕ)
-else_met none index rest = rest
-else_met (some k) index rest = some (k, index)
-
-unfoldable pub met_in_turn : ℕ → ℕ → List (List ℕ) → Option (ℕ × ℕ)
-met_in_turn awaited index [] = none
-met_in_turn awaited index (b ∷ bs) = else_met (number_met (interval_conditions awaited b)) index (met_in_turn (suc (record_number b)) (suc index) bs)
-
-unfoldable pub set_met : ℕ → List ℕ → Option (ℕ × ℕ)
-set_met awaited s = else_met (number_met (set_conditions s)) 0 (met_in_turn awaited 0 (records_in s))
-
 -- The set is accepted exactly if each record would have been accepted in its turn; then its tracker is that of the single calls in order. If not,
 -- the tracker is as before.
 abbrev pub takes : ℕ → List ℕ → Bool
@@ -74,11 +62,15 @@ AcceptedInTurn t bs k = (i : ℕ) → i < k → turn_of t bs i ≡ Ok tt
 
 pub record BySingleCalls (t : Tracker) (s : List ℕ) (outcome : SetOutcome) : Type 0 where
   -- 15 for the set's length, with index 0;
-  pub first_length : bad_records s ≡ true → outcome ≡ refused_at 0 BadRecords
+  pub first_length : bad_records s ≡ true → number_and_index outcome ≡ some (15, 0)
   -- else the set is accepted exactly if each record would have been accepted in its turn,
   pub all_or_none : bad_records s ≡ false → (outcome ≡ Ok tt) ↔ AcceptedInTurn t (records_in s) (record_count s)
   -- and otherwise it gives the number and the index of the first that would not.
-  pub first_refused : bad_records s ≡ false → (i : ℕ) → i < record_count s → AcceptedInTurn t (records_in s) i → (why : Refusal) → turn_of t (records_in s) i ≡ Err why → outcome ≡ refused_at i why
+  pub first_refused : bad_records s ≡ false
+      → (i k : ℕ) → i < record_count s
+      → AcceptedInTurn t (records_in s) i
+      → number_of (turn_of t (records_in s) i) ≡ some k
+      → number_and_index outcome ≡ some (k, i)
 
 -- ---- lists of calls
 -- A call that changes a tracker: one interval, or a set of them, with its bytes.

@@ -1,6 +1,5 @@
--- The records of a set (N10) in their turn: where the call of one ends, and what of that the whole set's end is.
+-- The records of a set (N10) in their turn.
 -- Assumes nothing.
-use mathlib.Core.Bool.{false, true}
 use mathlib.Core.Path.{◌≡◌, refl, sym, ap, ◌∙◌}
 use mathlib.Core.List.{List, [], ◌∷◌, foldl, foldl-append}
 use Prim.Native.Nat.{ℕ, suc, ◌+◌, ◌<◌}
@@ -8,17 +7,12 @@ use native.Mathlib.Omega.{arith}
 use lib.ListN.{length, get_or, take}
 use lib.Seq.{take-suc}
 use Rattle.std.specs.Prelude.{Ok, Err}
-use Rattle.rules.specs.declared.Refusal.{Refusal}
-use Rattle.rules.specs.declared.Refusal.TheVariants.{BadRecords}
 use Rattle.rules.specs.declared.Answer.{Answer}
 use Rattle.rules.specs.declared.SetRefusal.{SetRefusal}
 use Rattle.rules.specs.declared.Tracker.{Tracker}
-use Rattle.rules.specs.Record.{record_count, records_in}
-use Rattle.rules.specs.Refusal.{bad_records}
 use Rattle.rules.specs.Tracker.{interval_of, after}
-use Rattle.rules.specs.Sets.{SetOutcome, set_of, turn_of, AcceptedInTurn}
-use Rattle.rules.proofs.Sets.{by_single_calls}
-use Rattle.tracker.specs.Internal.{taken_or, taken_by}
+use Rattle.rules.specs.Sets.{SetOutcome, turn_of}
+use Rattle.tracker.specs.Internal.{taken_or}
 
 -- The call of record i, on the tracker that the calls before it left: it ends so, and leaves the tracker of one call more.
 module _ (t : Tracker) (bs : List (List ℕ)) (i : ℕ) {now : Tracker} {a : Answer} (was : now ≡ foldl after t (take i bs)) (is : a ≡ interval_of now (get_or bs i [])) where
@@ -31,21 +25,6 @@ module _ (t : Tracker) (bs : List (List ℕ)) (i : ℕ) {now : Tracker} {a : Ans
       ap (λ (a : Answer). a.tracker) is
       ∙ ap (λ (now : Tracker). after now (get_or bs i [])) was
       ∙ sym (ap (λ (k : ℕ). foldl after t (take k bs)) next ∙ ap (foldl after t) (take-suc bs i [] l) ∙ foldl-append after t (take i bs) (get_or bs i [] ∷ []))
-
--- So the set ends, by what the single calls of its records say.
-module _ (t : Tracker) (s : List ℕ) where
-  pub refused_length : bad_records s ≡ true → taken_by t s ≡ Err (record { why = BadRecords; index = 0 })
-  unfolding set_of
-  refused_length bad = rw ((by_single_calls t s).first_length bad) refl
-
-  module _ (whole : bad_records s ≡ false) where
-    pub refused_record : (i : ℕ) → i < record_count s → AcceptedInTurn t (records_in s) i → {why : Refusal} → turn_of t (records_in s) i ≡ Err why → taken_by t s ≡ Err (record { why = why; index = i })
-    unfolding set_of
-    refused_record i l all e = rw ((by_single_calls t s).first_refused whole i l all _ e) refl
-
-    pub none_refused : AcceptedInTurn t (records_in s) (record_count s) → taken_by t s ≡ Ok (foldl after t (records_in s))
-    unfolding set_of
-    none_refused all = rw (((by_single_calls t s).all_or_none whole).1 all) refl
 
 -- Which of the two it was.
 pub is_taken : (o : SetOutcome) {t now : Tracker} → taken_or o t ≡ Ok now → (o ≡ Ok tt) × (now ≡ t)

@@ -24,12 +24,12 @@ use Rattle.rules.specs.Refusal.{number_of, is_accepted, judged, open_conditions,
 use Rattle.rules.specs.Residue.{together}
 use Rattle.rules.specs.Record.{grains_in}
 use Rattle.rules.specs.Tracker.{Opening, first_of, shares_of, settings_of, open_of, interval_of, residue_shown, row_of, no_row, row_answer}
-use Rattle.rules.specs.Sets.{number_and_index, set_outcome, set_of, Call, Interval, Set, after_call, run_calls, singly}
+use Rattle.rules.specs.Sets.{set_outcome, set_of, Call, Interval, Set, after_call, run_calls, singly}
 use Rattle.rules.specs.History.{sum_since, estimate, under_review, lies_in}
 use Rattle.rules.specs.Rounding.{assigned_span, unrounded}
 use Rattle.rules.specs.Claim.{accepted, history, awaited_from, worked_from, Claim}
 use Rattle.rules.proofs.Came as rules
-use Rattle.rules.proofs.Sets.{set_met_lem, by_single_calls}
+use Rattle.rules.proofs.Sets.{by_single_calls}
 use Rattle.rules.proofs.Replay.{replays}
 use Rattle.rules.proofs.StateBounds.{row_bounds}
 use Rattle.rules.proofs.CentsAndGrains.{none_left}
@@ -107,10 +107,8 @@ module _ (t : Tracker) (o : Opening) (calls : List Call) (q : t ≡ run_calls o 
   set_after : (s : List ℕ) → SetAfter o calls s (set_of t s)
   unfolding set_of
   set_after s =
-      let outcome = ap (λ (n : ℕ). set_outcome n s) awaits in
       record {
-        outcome = outcome;
-        told = ap number_and_index outcome ∙ set_met_lem (awaited_from o calls) s;
+        outcome = ap (λ (n : ℕ). set_outcome n s) awaits;
         ran = run_longer (Set s);
         claim = longer (Set s);
       }

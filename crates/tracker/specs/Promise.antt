@@ -41,8 +41,8 @@ pub use Rattle.rules.specs.Refusal.{most_records}
 unfoldable pub use Rattle.rules.specs.Refusal.{bad_records}
 pub use Rattle.rules.specs.declared.SetRefusal.{SetRefusal}
 pub use Rattle.rules.specs.declared.SetAnswer.{SetAnswer}
-pub use Rattle.rules.specs.Sets.{SetOutcome, number_and_index, refused_at, else_rest, else_met, takes, set_of, turn_of, AcceptedInTurn, BySingleCalls}
-unfoldable pub use Rattle.rules.specs.Sets.{outcome_in_turn, set_conditions, set_outcome, met_in_turn, set_met}
+pub use Rattle.rules.specs.Sets.{SetOutcome, number_and_index, refused_at, else_rest, takes, set_of, turn_of, AcceptedInTurn, BySingleCalls}
+unfoldable pub use Rattle.rules.specs.Sets.{outcome_in_turn, set_conditions, set_outcome}
 -- a list of calls from an opening, in which single intervals and sets are mixed (N10)
 pub use Rattle.rules.specs.Sets.{Call, Interval, Set, after_call, singly}
 unfoldable pub use Rattle.rules.specs.Sets.{run_calls}
@@ -102,7 +102,6 @@ pub record IntervalPromise (t : Tracker) (b : List ℕ) (r : Answer) : Type 0 wh
 -- or with 15; the tracker returned is the run of that list with this call at its end, and the claim of the longer list holds of it.
 pub record SetAfter (o : Opening) (calls : List Call) (s : List ℕ) (r : SetAnswer) : Type 0 where
   pub outcome : r.outcome ≡ set_outcome (awaited_from o calls) s
-  pub told : number_and_index r.outcome ≡ set_met (awaited_from o calls) s
   pub ran : r.tracker ≡ run_calls o (calls ++ (Set s ∷ []))
   pub claim : Claim o (calls ++ (Set s ∷ [])) r.tracker
 

@@ -1,15 +1,14 @@
 -- The length is judged first, then each record in its turn.
-use Rattle.std.proofs.Common.{◌≡◌, sym, ap, ◌∙◌, Ok, length, arith, take_all, below_more}
-use mathlib.Core.List.{foldl}
+use Rattle.std.proofs.Common.{◌≡◌, refl, sym, ap, ◌∙◌, Ok, length, arith, take_all, below_more}
 use Rattle.rules.specs.Record.{records_in}
-use Rattle.rules.specs.Tracker.{after}
 use Rattle.rules.specs.Sets.{turn_of}
 use Rattle.rules.proofs.EndToEnd.{how_many}
-use Rattle.tracker.proofs.InTurn.{in_its_turn, one_later, refused_length, refused_record, none_refused}
+use Rattle.rules.proofs.Sets.{refused_length, refused_record, none_refused}
+use Rattle.tracker.proofs.InTurn.{in_its_turn, one_later}
 use Rattle.tracker.proofs.all_taken.Goals as goal
 
 pub returns-then-bad_records : goal.returns-then-bad_records
-returns-then-bad_records c = sym (refused_length c.args.tracker c.args.bytes.now (sym c.bad_records.ensures ∙ c.if-bad_records.true))
+returns-then-bad_records c = rw (refused_length c.args.tracker c.args.bytes.now (sym c.bad_records.ensures ∙ c.if-bad_records.true)) refl
 
 pub returns-in-Err : goal.returns-in-Err
 returns-in-Err c =
@@ -19,7 +18,7 @@ returns-in-Err c =
     let was = c.loop-index.invariant in
     let these : c.as_chunks.result.0.now ≡ records_in s = c.as_chunks.ensures.front in
     let e = sym (in_its_turn t c.as_chunks.result.0.now i was.1 c.interval-answer.ensures.is) ∙ c.in-Err.is in
-    sym (refused_record t s (sym c.bad_records.ensures ∙ c.if-bad_records.false) i (omega (arith, how_many s, ap length these, c.loop-index-test.true)) (rw these at was.2) (rw these at e))
+    rw (refused_record t s (sym c.bad_records.ensures ∙ c.if-bad_records.false) i (omega (arith, how_many s, ap length these, c.loop-index-test.true)) (rw these at was.2) c.in-Err.why (rw these at e)) refl
 
 pub loop-index-preserved : goal.loop-index-preserved
 loop-index-preserved c =
@@ -38,4 +37,4 @@ returns c =
     let was = c.loop-index.invariant in
     let these : bs ≡ records_in s = c.as_chunks.ensures.front in
     let all = none_refused t s (sym c.bad_records.ensures ∙ c.if-bad_records.false) (λ i l. (rw these at was.2) i (omega (arith, l, how_many s, ap length these, c.loop-index-test.false))) in
-    ap Ok (was.1 ∙ ap (foldl after t) (take_all c.loop-index.index bs c.loop-index-test.false ∙ these)) ∙ sym all
+    rw (was.1, take_all c.loop-index.index bs c.loop-index-test.false, these, all) refl
