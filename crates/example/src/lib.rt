@@ -48,13 +48,13 @@ pub fn tried(first: u32, shares: [u16; 6], settings: Settings, bytes: &[u8]) -> 
     tracker::row(&one.tracker, 4).row
 }
 
-// The row of NSW1_SA1 after a record and a set of them, each of any length and content.
-pub fn mixed(first: u32, shares: [u16; 6], bytes: &[u8], set: &[u8]) -> Row
-    ensures { Mixed first shares bytes.now set.now result }
+// The row of NSW1_SA1 after a record and a set of them, both of any length and content.
+pub fn mixed(first: u32, shares: [u16; 6], bytes: &[u8], records: &[u8]) -> Row
+    ensures { Mixed first shares bytes.now records.now result }
 {
     let opened = tracker::open(first, shares);
     let one = tracker::interval(opened.tracker, bytes);
-    let more = tracker::set_of_intervals(one.tracker, set);
+    let more = tracker::set_of_intervals(one.tracker, records);
     tracker::row(&more.tracker, 6).row
 }
 

@@ -1,6 +1,6 @@
--- Records one by one are those that stand end to end; of records in order, those that are not issued again are the survivors.
+-- The n and the issue of records one by one; of records in order, those that are not issued again are the survivors.
 -- Assumes nothing.
-use Rattle.std.proofs.Common.{◌≡◌, refl, ap, ◌∙◌, Bool, true, false, not, ℕ, zero, suc, ◌+◌, ◌*◌, ◌<◌, add-one, List, [], ◌∷◌, length, get_or, take, drop, drop-drop, arith}
+use Rattle.std.proofs.Common.{◌≡◌, refl, ap, ◌∙◌, Bool, true, false, not, ℕ, zero, suc, ◌+◌, ◌*◌, ◌<◌, add-one, List, [], ◌∷◌, get_or, drop, drop-drop, arith}
 use borrow.Author.Tests.{eqb-true, eqb-false}
 use lib.Dec.{eqb}
 use Rattle.std.specs.Simd.{first_chunks}

@@ -1,5 +1,5 @@
--- A trailer that points at records inside the journal, the records by what a read gave and one by one, a record that is issued again (N7), and
--- at most 288 whole records. No promise cites this.
+-- A trailer that points at records inside the journal, the records by what a read gave, a record that is issued again (N7), and at most 288
+-- whole records. No promise cites this.
 use Rattle.std.specs.Prelude.{◌≡◌, Bool, false, not, cond, List, [], ◌∷◌, ◌++◌, ℕ, Result, Ok, Err, ◌+◌, ◌*◌, ◌-◌, ◌%◌, ◌≤◌, eqb, ltb, length, take, drop}
 use Rattle.tracker.specs.Promise.{record_number}
 use Rattle.journal_rules.specs.declared.Contents.{Contents}

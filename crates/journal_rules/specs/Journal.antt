@@ -1,5 +1,5 @@
 -- Document 01, the journal: preface, records and trailer; what a read and a write give, and under which numbers they are refused.
-use Rattle.std.specs.Prelude.{Bool, not, cond, ◌&&◌, ◌||◌, List, [], ◌∷◌, ◌++◌, ℕ, Result, Ok, Err, ◌+◌, ◌*◌, ◌-◌, ◌/◌, ◌%◌, eqb, ltb, length, take, drop}
+use Rattle.std.specs.Prelude.{Bool, not, cond, ◌&&◌, ◌||◌, List, [], ◌∷◌, ◌++◌, ℕ, Result, Ok, Err, ◌+◌, ◌*◌, ◌-◌, eqb, ltb, length, take, drop}
 pub use Rattle.tracker.specs.Promise.{Refusal, BadLength, BadTrailer, BadNumbers, NotInOrder, BadRecords, NoRoom, number, Outcome, number_of, Condition, ◌when◌, judged, number_met, record_length, record_count, most_records}
 unfoldable pub use Rattle.tracker.specs.Promise.{u32_at, each, bad_records}
 use Rattle.tracker.specs.Promise.{byte_at}

@@ -1,10 +1,10 @@
 -- Document 02, N7: for each n the record of highest issue, and the second call of the journal, which writes these records to a lent buffer.
-use Rattle.std.specs.Prelude.{Bool, not, cond, ◌&&◌, ◌≡◌, ℕ, zero, suc, Result, Ok, Err, ◌+◌, ◌*◌, ◌<◌, ◌≤◌, eqb, ltb, length, take, drop, get_or}
+use Rattle.std.specs.Prelude.{Bool, not, cond, ◌&&◌, ◌≡◌, ℕ, zero, suc, Result, Ok, Err, ◌+◌, ◌<◌, ◌≤◌, eqb, ltb, length, get_or}
 use mathlib.Core.List.{List, [], ◌∷◌, ◌++◌, flatten}
 pub use Rattle.tracker.specs.Promise.{record_at}
 use Rattle.tracker.specs.Promise.{record_number, issue}
 use Rattle.words.specs.Buffer.{over}
-use Rattle.journal_rules.specs.Journal.{Refusal, NoRoom, Outcome, Condition, ◌when◌, judged, each, record_length, record_count, number_at, issue_at, first_number, part, read_conditions}
+use Rattle.journal_rules.specs.Journal.{Refusal, NoRoom, Outcome, Condition, ◌when◌, judged, each, record_count, number_at, issue_at, first_number, part, read_conditions}
 
 -- Record j supersedes record i: it has the same n and a higher issue.
 abbrev pub supersedes : List ℕ → ℕ → ℕ → Bool

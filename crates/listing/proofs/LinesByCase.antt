@@ -14,7 +14,7 @@ use Rattle.journal_rules.specs.Survivors.{survivors}
 use Rattle.journal_rules.specs.Internal.{last_records, counted_records}
 use Rattle.journal_rules.proofs.Accept.{counted_records_lem, records_ordered}
 use Rattle.journal_rules.proofs.Survivors as S
-use Rattle.tracker.specs.Promise.{Refusal, number, Row, Answer, Opening, OpenPromise, CallAfter, number_of, worked_from, Call, Interval}
+use Rattle.tracker.specs.Promise.{Refusal, number, Row, Answer, Opening, OpenPromise, IntervalAfter, number_of, worked_from, Call, Interval}
 use Rattle.listing.specs.Line.{line_of, listed_of}
 use Rattle.listing.specs.Internal.{row_text}
 use Rattle.listing.specs.Listing.{if_listed, eight_rows, call_lines, ended_by, run_lines, opened_at, opened_lines, record_lines, body_lines}
@@ -32,7 +32,7 @@ printed (r ∷ rows) = go (listed_of r) (printed rows)
     go false e = e
 
 -- one record's turn, by its call
-module _ (o : Opening) (passed : List Call) (bs : List (List ℕ)) {b : List ℕ} {a : Answer} (call : CallAfter o passed b a) where
+module _ (o : Opening) (passed : List Call) (bs : List (List ℕ)) {b : List ℕ} {a : Answer} (call : IntervalAfter o passed b a) where
   abbrev upto : List Call
   upto = passed ++ (Interval b ∷ [])
 

@@ -5,7 +5,7 @@ use mathlib.Core.List.{map, flatten}
 use borrow.Rule.Slice.PartMut.{mid_of, put_mid}
 use Rattle.words.specs.Buffer.{Puts}
 use Rattle.words.proofs.Parts.{nothing, chained, room_behind, flatten-append}
-use Rattle.tracker.specs.Promise.{Came, Tracker, Row, Refusal, number, Answer, OpenPromise, IntervalPromise, CallAfter, of_directions, worked_from, Call, Interval, run_calls}
+use Rattle.tracker.specs.Promise.{Came, Tracker, Row, Refusal, number, Answer, OpenPromise, IntervalPromise, IntervalAfter, of_directions, worked_from, Call, Interval, run_calls}
 use Rattle.tracker.proofs.Promise.{came_ran}
 use Rattle.journal_rules.specs.Survivors.{survivors}
 use Rattle.listing.specs.Internal.{row_text, rows_text}
@@ -17,7 +17,7 @@ use Rattle.listing.proofs.LinesByCase.{printed, go_on, go_off, opened}
 abbrev pub all : ℕ → List ℕ → List ℕ
 all first r = flatten (opened_lines first (survivors r))
 
--- the tracker is the run of the calls passed, of survivors, and bs are left; what was put into buffer d, which is `out` since, has n bytes
+-- the tracker is the run of the calls passed, one for each survivor, and bs are left; what was put into buffer d, which is `out` since, has n bytes
 pub record SoFar (first : ℕ) (r : List ℕ) (bs : List (List ℕ)) (t : Tracker) (d : List ℕ) (n : ℕ) (out : List ℕ) : Type 0 where
   pub passed : List Call
   pub ran : t ≡ run_calls (opened_at first) passed
@@ -42,7 +42,7 @@ module _ {first : ℕ} {r : List ℕ} {bs : List (List ℕ)} {t : Tracker} {d : 
 
   -- the next survivor
   module _ {b : List ℕ} {others : List (List ℕ)} (next : bs ≡ b ∷ others) {a : Answer} (p : IntervalPromise t b a) where
-    call : CallAfter (opened_at first) l.passed b a
+    call : IntervalAfter (opened_at first) l.passed b a
     call = p.call (opened_at first) l.passed l.ran
 
     -- a refusal's line ends the listing

@@ -3,7 +3,7 @@ use Rattle.std.specs.Prelude.{List, [], ◌∷◌, ◌≡◌, ℕ}
 use Rattle.rules.specs.declared.Tracker.{Tracker}
 use Rattle.rules.specs.Market.{of_directions}
 use Rattle.rules.specs.Tracker.{Opening, opening, shares_of, open_of, after}
-use Rattle.rules.specs.Sets.{Interval}
+use Rattle.rules.specs.Calls.{Interval}
 use Rattle.rules.specs.Claim.{accept_call}
 use Rattle.rules.specs.Figures.{halves, Compared, compared_at}
 use Rattle.rounding_cases.specs.Records as records

@@ -18,7 +18,7 @@ use Rattle.rules.specs.History.{sum_since, estimate, under_review, got_there, li
 use Rattle.rules.specs.Record.{record_number, residue, flag, next, event_of}
 use Rattle.rules.specs.Rounding.{span, assigned_of, assigned_span, unrounded}
 use Rattle.rules.specs.Tracker.{Opening, first_of, shares_of, settings_of, row_of}
-use Rattle.rules.specs.Sets.{Call}
+use Rattle.rules.specs.Calls.{Call}
 use Rattle.rules.specs.Claim.{awaited_after, accepted, history, worked_row, awaited_from, DirectionClaim, Claim}
 
 -- None of the last twelve accepted intervals of a history got there without review, under these settings.

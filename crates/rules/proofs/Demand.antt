@@ -16,7 +16,7 @@ use Rattle.rules.specs.History.{state_after}
 use Rattle.rules.specs.Record.{event_of}
 use Rattle.rules.specs.Rounding.{Rounding}
 use Rattle.rules.specs.Tracker.{Opening, first_of, shares_of, settings_of, accepts, advanced, interval_of, after, row, row_of}
-use Rattle.rules.specs.Sets.{Call, run_calls}
+use Rattle.rules.specs.Calls.{Call, run_calls}
 use Rattle.rules.specs.Claim.{accepted, history, worked_row, DirectionClaim, ClaimOf, Claim}
 use Rattle.rules.proofs.AcceptedSettings.{settled, threshold_below}
 use Rattle.rules.proofs.PeriodInvariant.{recent_of}

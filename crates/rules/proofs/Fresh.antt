@@ -23,8 +23,8 @@ use Rattle.rules.specs.Settings.{document01}
 use Rattle.rules.specs.Interval.{clears_at, flag_of, next_of, step_of}
 use Rattle.rules.specs.Record.{u32_at, i32_at, prices, lines, pre_dispatch_prices, pre_dispatch_lines, event_of}
 use Rattle.rules.specs.Refusal.{each, bad_flags, bad_status, bad_price, bad_flow, pre_dispatch_zero, pre_dispatch_inside, bad_pre_dispatch, interval_conditions, interval_outcome, inside_spans, rising, open_conditions, open_outcome, row_conditions, row_outcome}
-use Rattle.rules.specs.Tracker.{Opening, opening, opens, open_of, step_all, advanced, interval_of, row_of, row_answer, run}
-use Rattle.rules.specs.Sets.{Call, run_calls}
+use Rattle.rules.specs.Tracker.{Opening, opening, opens, open_of, step_all, advanced, interval_of, row_of, row_answer}
+use Rattle.rules.specs.Calls.{Call, run_calls, run}
 use Rattle.rules.specs.Claim.{history, worked_row}
 use Rattle.rules.specs.Figures.{halves, the_record}
 use Rattle.rules.proofs.Replay.{replays}
@@ -38,7 +38,7 @@ amount_at k =
 
 -- The share counts to the thousandth: at 251 the amount is 15 cents lower than at 250.
 pub amount_by_share : (amount_at 250 ≡ cents (minus 373750)) × (amount_at 251 ≡ cents (minus 373765))
-unfolding residue_of clears_at flag_of next_of step_of u32_at i32_at prices lines pre_dispatch_prices pre_dispatch_lines event_of each bad_flags bad_status bad_price bad_flow pre_dispatch_zero pre_dispatch_inside bad_pre_dispatch interval_conditions interval_outcome inside_spans rising open_conditions open_outcome row_conditions row_outcome open_of step_all advanced interval_of row_of row_answer run
+unfolding residue_of clears_at flag_of next_of step_of u32_at i32_at prices lines pre_dispatch_prices pre_dispatch_lines event_of each bad_flags bad_status bad_price bad_flow pre_dispatch_zero pre_dispatch_inside bad_pre_dispatch interval_conditions interval_outcome inside_spans rising open_conditions open_outcome row_conditions row_outcome open_of step_all advanced interval_of row_of row_answer run_calls
 amount_by_share = (refl, refl)
 
 -- ---- a fresh tracker

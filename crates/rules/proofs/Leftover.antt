@@ -19,7 +19,7 @@ use Rattle.rules.specs.Interval.{step_of}
 use Rattle.rules.specs.History.{state_after}
 use Rattle.rules.specs.Record.{prices, lines, pre_dispatch_prices, pre_dispatch_lines, residue, pre_dispatch_residue, grains_in, pre_dispatch_grains_in, event_of}
 use Rattle.rules.specs.Tracker.{Opening, shares_of, residue_shown}
-use Rattle.rules.specs.Sets.{Call}
+use Rattle.rules.specs.Calls.{Call}
 use Rattle.rules.specs.Claim.{accepted, history, worked_row, worked_from}
 use Rattle.rules.specs.Bounds.{WithinHalfCent}
 use Rattle.rules.proofs.CentsAndGrains.{alone, none_left, leftover_within}

@@ -1,7 +1,6 @@
 -- One call more at the end of a list: the accepted records, the awaited number and the rows that are worked out then.
 -- Assumes nothing.
 use mathlib.Core.Path.{◌≡◌, refl, sym, ap, ◌∙◌}
-use mathlib.Core.Bool.{true}
 use mathlib.Core.List.{List, [], ◌∷◌, ◌++◌, foldl, foldl-append, reverse}
 use Prim.Native.Nat.{ℕ, suc}
 use Rattle.std.specs.Prelude.{Ok, Err}
@@ -11,12 +10,13 @@ use Rattle.rules.specs.declared.Event.{Event}
 use Rattle.rules.specs.declared.Settings.{Settings}
 use Rattle.rules.specs.Record.{record_number, records_in, event_of}
 use Rattle.rules.specs.Refusal.{is_accepted, judged, interval_conditions, interval_outcome}
-use Rattle.rules.specs.Tracker.{Opening, first_of, settings_of, accepts}
-use Rattle.rules.specs.Sets.{outcome_in_turn, set_conditions, set_outcome, Call, Interval, Set, singly}
+use Rattle.rules.specs.Tracker.{Opening, first_of, settings_of}
+use Rattle.rules.specs.Sets.{outcome_in_turn, set_conditions, set_outcome}
+use Rattle.rules.specs.Calls.{Call, Interval, Set, singly}
 use Rattle.rules.specs.Claim.{awaited_after, accept_call, accepted, history, worked_row, awaited_from, worked_from}
 use Rattle.rules.proofs.Accepted.{accepted_is}
 use Rattle.rules.proofs.Sets.{both_accepted}
-use Rattle.rules.proofs.Lists.{joined}
+use Rattle.rules.proofs.Lists.{all_join}
 
 module _ (o : Opening) (calls : List Call) where
   accepted_on : (more : List Call) → accepted o (calls ++ more) ≡ foldl (accept_call o) (accepted o calls) more
@@ -63,28 +63,18 @@ module _ (o : Opening) (calls : List Call) (s : List ℕ) where
   refused_set e = accepted_on o calls (Set s ∷ []) ∙ rw e
 
   module _ (ok : set_outcome (awaited_from o calls) s ≡ Ok tt) where
-    -- Accepted, it adds its records in front, the last of them first,
+    -- Accepted, it adds its records in front, the last of them first;
     pub accepted_set : accepted o with_set ≡ reverse (records_in s) ++ accepted o calls
     unfolding accept_call
     accepted_set = accepted_on o calls (Set s ∷ []) ∙ rw ok
 
-    -- as its records do, each by a single call,
-    single_call : (bs : List (List ℕ)) (b : List ℕ) → accepts (awaited_after o bs) b ≡ true → accept_call o bs (Interval b) ≡ b ∷ bs
-    unfolding accept_call
-    single_call bs b e = rw e refl
-
-    single_calls : (rs bs : List (List ℕ)) (index : ℕ) → is_accepted (outcome_in_turn (awaited_after o bs) index rs) ≡ true → foldl (accept_call o) bs (singly rs) ≡ reverse rs ++ bs
-    unfolding outcome_in_turn
-    single_calls [] bs index e = refl
-    single_calls (b ∷ rs) bs index e =
-        let both = both_accepted (interval_outcome (awaited_after o bs) b) index _ e in
-        ap (λ (w : List (List ℕ)). foldl (accept_call o) w (singly rs)) (single_call bs b both.0) ∙ single_calls rs (b ∷ bs) (suc index) both.1 ∙ sym (joined b rs bs)
-
+    -- and so its records would, each in a single call.
     pub accepted_singly : accepted o with_set ≡ accepted o (calls ++ singly (records_in s))
     unfolding set_outcome
     accepted_singly =
-        let taken = both_accepted (judged (set_conditions s)) 0 (outcome_in_turn (awaited_from o calls) 0 (records_in s)) (ap is_accepted ok) in
-        accepted_set ∙ sym (accepted_on o calls (singly (records_in s)) ∙ single_calls (records_in s) (accepted o calls) 0 taken.1)
+        let rs = records_in s in
+        let taken = both_accepted (judged (set_conditions s)) 0 (outcome_in_turn (awaited_from o calls) 0 rs) (ap is_accepted ok) in
+        accepted_set ∙ sym (accepted_on o calls (singly rs) ∙ all_join o rs (accepted o calls) 0 taken.1)
 
 -- a row has the direction that it is worked out for
 pub worked_direction : (set : Settings) (first d : ℕ) (es : List Event) → (worked_row set first d es).direction ≡ d

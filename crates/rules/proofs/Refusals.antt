@@ -18,7 +18,8 @@ use Rattle.rules.specs.Settings.{document01}
 use Rattle.rules.specs.Record.{u32_at, i32_at}
 use Rattle.rules.specs.declared.Refusal.{Refusal}
 use Rattle.rules.specs.Refusal.{number, Outcome, number_of, Condition, each, bad_flags, bad_status, bad_price, bad_flow, pre_dispatch_zero, pre_dispatch_inside, bad_pre_dispatch, interval_conditions, interval_outcome, inside_spans, rising, open_conditions, open_outcome, row_conditions, row_outcome}
-use Rattle.rules.specs.Tracker.{opening, open_of, advanced, interval_of, row_answer, run}
+use Rattle.rules.specs.Tracker.{opening, open_of, advanced, interval_of, row_answer}
+use Rattle.rules.specs.Calls.{run_calls, run}
 use Rattle.rules.specs.Figures.{halves, the_record}
 use Rattle.rules.proofs.Fresh.{row_of_zeros}
 
@@ -85,7 +86,7 @@ answers_after calls = map (λ n. (interval_of (run (opening 0 halves) calls) (wi
 
 -- Just opened at 0, it takes 0 alone; after one record 1 alone.
 pub awaited_in_turn : (answers_after [] ≡ Ok tt ∷ Err NotAwaited ∷ Err NotAwaited ∷ []) × (answers_after (the_record ∷ []) ≡ Err NotAwaited ∷ Ok tt ∷ Err NotAwaited ∷ [])
-unfolding u32_at i32_at each bad_flags bad_status bad_price bad_flow pre_dispatch_zero pre_dispatch_inside bad_pre_dispatch interval_conditions interval_outcome inside_spans rising open_conditions open_outcome open_of advanced interval_of run
+unfolding u32_at i32_at each bad_flags bad_status bad_price bad_flow pre_dispatch_zero pre_dispatch_inside bad_pre_dispatch interval_conditions interval_outcome inside_spans rising open_conditions open_outcome open_of advanced interval_of run_calls
 awaited_in_turn = (refl, refl)
 
 -- Number 4, each of the flag bits 3-7 set.

@@ -17,7 +17,7 @@ use Rattle.rules.specs.History.{state_after}
 use Rattle.rules.specs.Record.{record_number, present, pre_dispatch_residue, flag, event_of}
 use Rattle.rules.specs.Refusal.{highest_number}
 use Rattle.rules.specs.Tracker.{Opening, opens, first_of, shares_of, settings_of, open_of, blank, direction_of, step_all, advanced, accepts}
-use Rattle.rules.specs.Sets.{Call, run_calls}
+use Rattle.rules.specs.Calls.{Call, run_calls}
 use Rattle.rules.specs.Claim.{awaited_after, accepted, history}
 use Rattle.rules.proofs.Accepted.{Sound, accepted_is, opened_is}
 use Rattle.rules.proofs.Directions.{at_direction}
@@ -82,14 +82,14 @@ module _ (o : Opening) where
       go true e = rw e (omega (arith, (opened_is o e).in_range))
       go false e = rw e (omega arith)
 
-  pub start : Replays (open_of o).tracker []
+  start : Replays (open_of o).tracker []
   unfolding open_of history state_after
   start = record { awaits = refl; shows = refl; early = omega (arith, first_early); shares = refl; settings = refl; eight = refl; each = λ d h. get_or-replicate 8 d fresh blank h; turns = λ _. tt; sound = tt }
 
-  -- one accepted record more
-  pub more : (t : Tracker) (bs : List (List ℕ)) (b : List ℕ) → Replays t bs → accepts t.awaited b ≡ true → Replays (advanced t b) (b ∷ bs)
+  -- after one accepted record more
+  one_more : (t : Tracker) (bs : List (List ℕ)) (b : List ℕ) → t.awaited ≡ awaited_after o bs → Replays t bs → accepts t.awaited b ≡ true → Replays (advanced t b) (b ∷ bs)
   unfolding history state_after advanced
-  more t bs b r e =
+  one_more t bs b _ r e =
       let sound = accepted_is t.awaited b e in
       record {
         awaits = refl;
@@ -104,4 +104,4 @@ module _ (o : Opening) where
       }
 
   pub replays : (calls : List Call) → Replays (run_calls o calls) (accepted o calls)
-  replays = after_every_list o Replays (λ t bs r. r.awaits) more start
+  replays = after_every_list o Replays one_more start

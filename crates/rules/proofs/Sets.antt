@@ -17,7 +17,7 @@ use Rattle.rules.specs.declared.Tracker.{Tracker}
 use Rattle.rules.specs.Record.{record_number, record_length, record_count, records_in}
 use Rattle.rules.specs.Refusal.{Outcome, number_of, is_accepted, most_records, bad_records, interval_outcome}
 use Rattle.rules.specs.Tracker.{accepts, advanced, interval_of, after}
-use Rattle.rules.specs.Sets.{SetOutcome, number_and_index, refused_at, else_rest, outcome_in_turn, set_conditions, set_outcome, set_of, turn_of, AcceptedInTurn, BySingleCalls}
+use Rattle.rules.specs.Sets.{SetOutcome, number_and_index, else_rest, outcome_in_turn, set_conditions, set_outcome, set_of, single_outcome, AcceptedInTurn, BySingleCalls}
 use Rattle.rules.proofs.Accepted.{is_accepted_lem}
 use Rattle.rules.proofs.EachBelow.{both_false}
 use Rattle.rules.proofs.EndToEnd.{how_many}
@@ -41,11 +41,10 @@ unfolding interval_of
 goes_on t b e = ap is_accepted e
 
 -- ---- records in their turn
-module _ (index : ℕ) where
-  -- The first of them accepted, it is left to the others.
-  first_accepted : (t : Tracker) (b : List ℕ) (bs : List (List ℕ)) → (interval_of t b).outcome ≡ Ok tt → outcome_in_turn t.awaited index (b ∷ bs) ≡ outcome_in_turn (after t b).awaited (suc index) bs
-  unfolding interval_of outcome_in_turn
-  first_accepted t b bs e = rw (awaits_next t b (goes_on t b e), e)
+-- The first of them accepted, it is left to the others.
+first_accepted : (index : ℕ) (t : Tracker) (b : List ℕ) (bs : List (List ℕ)) → (interval_of t b).outcome ≡ Ok tt → outcome_in_turn t.awaited index (b ∷ bs) ≡ outcome_in_turn (after t b).awaited (suc index) bs
+unfolding interval_of outcome_in_turn
+first_accepted index t b bs e = rw (awaits_next t b (goes_on t b e), e)
 
 -- The first k of them accepted in their turn, it is left to the others, from index k on.
 left_to : (k : ℕ) (t : Tracker) (index : ℕ) (bs : List (List ℕ)) → k ≤ length bs → AcceptedInTurn t bs k
@@ -87,7 +86,7 @@ empty_set t = refl
 -- ---- a set
 module _ (t : Tracker) (s : List ℕ) where
   -- Of a wrong length it is refused,
-  pub refused_length : bad_records s ≡ true → set_outcome t.awaited s ≡ refused_at 0 BadRecords
+  pub refused_length : bad_records s ≡ true → set_outcome t.awaited s ≡ Err (record { why = BadRecords; index = 0 })
   unfolding set_conditions set_outcome
   refused_length bad = rw bad refl
 
@@ -98,7 +97,7 @@ module _ (t : Tracker) (s : List ℕ) where
     by_records = rw whole refl
 
     -- the first that is refused in its turn,
-    pub refused_record : (i : ℕ) → i < record_count s → AcceptedInTurn t (records_in s) i → (why : Refusal) → turn_of t (records_in s) i ≡ Err why → set_outcome t.awaited s ≡ refused_at i why
+    pub refused_record : (i : ℕ) → i < record_count s → AcceptedInTurn t (records_in s) i → (why : Refusal) → single_outcome t (records_in s) i ≡ Err why → set_outcome t.awaited s ≡ Err (record { why = why; index = i })
     unfolding outcome_in_turn interval_of
     refused_record i l all why e =
         let bs = records_in s in
@@ -118,17 +117,19 @@ module _ (t : Tracker) (s : List ℕ) where
     all_accepted e i l = each_in_turn t 0 (records_in s) (ap is_accepted (sym by_records ∙ e)) i (omega (arith, how_many s))
 
     -- The number that the first refused one has in its turn is the set's, with its index.
-    first_number : (i k : ℕ) → i < record_count s → AcceptedInTurn t (records_in s) i → number_of (turn_of t (records_in s) i) ≡ some k → number_and_index (set_outcome t.awaited s) ≡ some (k, i)
-    first_number i k l all n = go (turn_of t (records_in s) i) refl n
+    first_refused_number : (i k : ℕ) → i < record_count s → AcceptedInTurn t (records_in s) i → number_of (single_outcome t (records_in s) i) ≡ some k → number_and_index (set_outcome t.awaited s) ≡ some (k, i)
+    first_refused_number i k l all n = go (single_outcome t (records_in s) i) refl n
       where
-        go : (o : Outcome) → turn_of t (records_in s) i ≡ o → number_of o ≡ some k → number_and_index (set_outcome t.awaited s) ≡ some (k, i)
+        go : (o : Outcome) → single_outcome t (records_in s) i ≡ o → number_of o ≡ some k → number_and_index (set_outcome t.awaited s) ≡ some (k, i)
         go (Ok done) e n = cc
         go (Err why) e n = ap number_and_index (refused_record i l all why e) ∙ ap (λ (k : ℕ). some (k, i)) (some_inj.0 n)
 
-  pub by_single_calls : BySingleCalls t s (set_of t s).outcome
+  pub by_single_calls : BySingleCalls t s (set_of t s)
   unfolding set_of
   by_single_calls = record {
-    first_length = λ bad. ap number_and_index (refused_length bad);
+    wrong_length = λ bad. ap number_and_index (refused_length bad);
     all_or_none = λ whole. (all_accepted whole, none_refused whole);
-    first_refused = first_number;
+    first_refused = first_refused_number;
+    in_order = λ e. rw e refl;
+    as_before = λ e. rw e refl;
   }

@@ -32,7 +32,7 @@ use Rattle.rules.specs.History.{clearing, since_clearing, sum_negative, sum_sinc
 use Rattle.rules.specs.Record.{record_number, present, prices, lines, pre_dispatch_prices, pre_dispatch_lines, flag, pre_dispatch_residue, event_of}
 use Rattle.rules.specs.Refusal.{highest_number, direction_ok}
 use Rattle.rules.specs.Tracker.{Opening, first_of, shares_of, settings_of, direction_of, row_of}
-use Rattle.rules.specs.Sets.{singly}
+use Rattle.rules.specs.Calls.{singly}
 use Rattle.rules.specs.Claim.{awaited_after, accepted, history, Came}
 use Rattle.rules.specs.Bounds.{highest_residue, highest_next, highest_sum, WithinHalfCent, BoundedPeriod, Bounds, RowBounds}
 use Rattle.rules.proofs.Accepted.{Sound}

@@ -13,11 +13,10 @@ use Rattle.rules.specs.declared.Refusal.TheVariants.{NotAwaited}
 use Rattle.rules.specs.Record.{record_number}
 use Rattle.rules.specs.Refusal.{judged, highest_number, interval_conditions}
 use Rattle.rules.specs.Tracker.{Opening, accepts}
-use Rattle.rules.specs.Sets.{Call}
+use Rattle.rules.specs.Calls.{Call}
 use Rattle.rules.specs.Claim.{awaited_after, awaited_from, accepted}
 use Rattle.rules.proofs.Accepted.{accepted_is}
 use Rattle.rules.proofs.Lists.{after_every_list}
-use Rattle.rules.proofs.Replay.{Replays, more, start}
 
 -- n is below the awaited number, and in range.
 record Taken (awaited n : ℕ) : Type 0 where
@@ -35,10 +34,7 @@ module _ (o : Opening) where
       record { below = omega (arith, t.below, (accepted_is (awaited_after o bs) b e).in_turn); in_range = t.in_range }
 
   all_taken : (calls : List Call) → AllTaken o (accepted o calls)
-  all_taken calls =
-      (after_every_list o (λ t bs. Replays o t bs × AllTaken o bs) (λ t bs r. r.0.awaits)
-      (λ t bs b r e. (more o t bs b r.0 e, one_more bs b r.1 (rw (← r.0.awaits) e)))
-      (start o, λ k l. absurd (omega arith)) calls).1
+  all_taken calls = after_every_list o (λ t bs. AllTaken o bs) (λ t bs b awaits all e. one_more bs b all (rw (← awaits) e)) (λ k l. absurd (omega arith)) calls
 
   -- A record c of the n of any accepted one.
   pub already_taken : (calls : List Call) (k : ℕ)

@@ -11,10 +11,12 @@ use Rattle.rules.specs.Interval.{fresh}
 use Rattle.rules.specs.History.{sum_since, got_there, under_review, GotThereWithin, lies_in, state_after}
 use Rattle.rules.specs.Record.{record_number, event_of, records_in}
 use Rattle.rules.specs.Rounding.{Rounding}
-use Rattle.rules.specs.Tracker.{Opening, first_of, shares_of, settings_of, accepts, row, row_of, after, run}
-use Rattle.rules.specs.Sets.{takes, Call, Interval, Set}
+use Rattle.rules.specs.Tracker.{Opening, first_of, shares_of, settings_of, accepts, row, row_of, after}
+use Rattle.rules.specs.Sets.{accepts_set}
+use Rattle.rules.specs.Calls.{Call, Interval, Set, run}
 
--- Which calls are accepted follows from the opening and the records by numbers 1 to 8. The accepted records stand the latest first.
+-- Which calls are accepted follows from the opening and the records by numbers 1 to 8, of a set by 15 before them (N10). The accepted records stand
+-- the latest first.
 -- The awaited number is the opening's first n, then one more than the latest accepted n.
 abbrev pub awaited_after : Opening → List (List ℕ) → ℕ
 awaited_after o [] = first_of o
@@ -24,7 +26,7 @@ awaited_after o (b ∷ bs) = suc (record_number b)
 -- nothing (N10).
 unfoldable pub accept_call : Opening → List (List ℕ) → Call → List (List ℕ)
 accept_call o bs (Interval b) = cond (accepts (awaited_after o bs) b) (b ∷ bs) bs
-accept_call o bs (Set s) = cond (takes (awaited_after o bs) s) (reverse (records_in s) ++ bs) bs
+accept_call o bs (Set s) = cond (accepts_set (awaited_after o bs) s) (reverse (records_in s) ++ bs) bs
 
 unfoldable pub accepted : Opening → List Call → List (List ℕ)
 accepted o calls = foldl (accept_call o) [] calls

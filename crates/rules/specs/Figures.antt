@@ -22,8 +22,8 @@ use Rattle.rules.specs.History.{sum_since, state_after}
 use Rattle.rules.specs.Record.{residue}
 use Rattle.rules.specs.Refusal.{interval_outcome}
 use Rattle.rules.specs.Rounding.{span, assigned_span, unrounded, apart}
-use Rattle.rules.specs.Tracker.{Opening, opening, shares_of, residue_shown, row_answer, run}
-use Rattle.rules.specs.Sets.{singly}
+use Rattle.rules.specs.Tracker.{Opening, opening, shares_of, residue_shown, row_answer}
+use Rattle.rules.specs.Calls.{run, singly}
 use Rattle.rules.specs.Claim.{accepted}
 
 -- All shares 500.

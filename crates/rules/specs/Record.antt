@@ -1,4 +1,4 @@
--- Document 01, "Record, opening, row, journal": the 168 bytes of a record, and what they say of a direction.
+-- Document 01, "Record, opening, row, journal": the 168 bytes of a record, what they say of a direction, and records end to end.
 use Rattle.std.specs.Prelude.{Bool, cond, ◌&&◌, List, [], ◌∷◌, ℕ, ◌+◌, ◌*◌, ◌-◌, ◌/◌, ◌%◌, ◌^◌, eqb, ltb, ℤ, pos, length, get_or, take, drop}
 use Rattle.std.specs.Simd.{first_chunks}
 use Rattle.signed.specs.Range.{minus}
@@ -158,8 +158,8 @@ event_of shares d b = record {
   target = target_sum b d;
 }
 
--- Records end to end, as a journal holds them and a set of intervals has them (N10): how long one is, how many there are, record i, and all of
--- them in a list. Bytes too few for a record are of none.
+-- Records end to end, as a journal and a set of intervals (N10) have them: how long one is, how many there are, record i, and all of them in a
+-- list. Bytes at the end that are too few for a record are left out.
 abbrev pub record_length : ℕ
 record_length = 168
 

@@ -1,6 +1,6 @@
 -- Document 01, "Record, opening, row, journal": what the calls of the tracker return for every input.
 use Rattle.std.specs.Prelude.{None as NoNotice, Bool, false, not, cond, ℕ, suc, pos, get_or, replicate}
-use mathlib.Core.List.{List, foldl}
+use mathlib.Core.List.{List}
 use Rattle.units.specs.declared.Cents.{Cents}
 use Rattle.units.specs.declared.Grains.{Grains}
 use Rattle.units.specs.Units.{cents, hundredths, grains}
@@ -129,9 +129,6 @@ no_row = record {
 unfoldable pub row_answer : Tracker → ℕ → RowAnswer
 row_answer t d = record { outcome = row_outcome d; row = cond (is_accepted (row_outcome d)) (row_of t d) no_row }
 
--- A list of interval calls from an opening, each on the tracker that the one before it left.
+-- The tracker after an interval call.
 abbrev pub after : Tracker → List ℕ → Tracker
 after t b = (interval_of t b).tracker
-
-unfoldable pub run : Opening → List (List ℕ) → Tracker
-run o calls = foldl after (open_of o).tracker calls

@@ -254,7 +254,8 @@ pub struct Answer {
     pub tracker: Tracker,
 }
 
-// Why a set of intervals is refused, and the index, from 0, of the first record that would not be accepted; of the set's length the index is 0 (N10).
+// Why a set of intervals is refused, and the index, from 0, of the first record that would not be accepted; with 15, for the set's length, it is 0
+// (N10).
 #[derive(Clone, Copy, PartialEq, Eq)]
 pub struct SetRefusal {
     pub why: Refusal,

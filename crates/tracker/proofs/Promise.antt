@@ -1,5 +1,6 @@
 -- Every caller meets what the calls ask: an opening gives a tracker that came from an opening and calls, and a call keeps it. With them go the
--- laws that callers need: of ranges, conditions and tests, of one call more at the end of a list, and of the rows that the calls return.
+-- laws that callers need: of ranges, conditions and tests, of records end to end and sets of them (N10), of one call more at the end of a list, and
+-- of the rows that the calls return.
 -- Assumes nothing.
 use mathlib.Core.Bool.{Bool, true, false, not, cond}
 use mathlib.Core.List.{List, [], ◌∷◌, ◌++◌}
@@ -24,7 +25,8 @@ use Rattle.rules.specs.Refusal.{number_of, is_accepted, judged, open_conditions,
 use Rattle.rules.specs.Residue.{together}
 use Rattle.rules.specs.Record.{grains_in}
 use Rattle.rules.specs.Tracker.{Opening, first_of, shares_of, settings_of, open_of, interval_of, residue_shown, row_of, no_row, row_answer}
-use Rattle.rules.specs.Sets.{set_outcome, set_of, Call, Interval, Set, after_call, run_calls, singly}
+use Rattle.rules.specs.Sets.{set_outcome, set_of}
+use Rattle.rules.specs.Calls.{Call, Interval, Set, after_call, run_calls, singly}
 use Rattle.rules.specs.History.{sum_since, estimate, under_review, lies_in}
 use Rattle.rules.specs.Rounding.{assigned_span, unrounded}
 use Rattle.rules.specs.Claim.{accepted, history, awaited_from, worked_from, Claim}
@@ -46,17 +48,18 @@ pub use Rattle.rules.proofs.Accepted.{accepted_iff, number_met_lem}
 pub use Rattle.rules.proofs.FirstMet.{Passed, never, untested, pass, refused_at, accepted_past}
 pub use Rattle.rules.proofs.ByClaim.{NoCause, not_without_cause, clamped_at, amount_is, amount_near, none_assigned, none_in_span}
 pub use Rattle.rules.proofs.Refusals.{numbers}
+pub use Rattle.rules.proofs.Came.{ran_singly}
 pub use Rattle.rules.proofs.OneCallMore.{refused_longer, accepted_longer, awaits_one_more, shows_awaited, refused_set, accepted_set, accepted_singly, worked_direction}
-use Rattle.tracker.specs.Promise.{Came, OpenPromise, CallAfter, IntervalPromise, SetAfter, SetPromise, RowPromise}
+use Rattle.tracker.specs.Promise.{Came, OpenPromise, IntervalAfter, IntervalPromise, SetAfter, SetPromise, RowPromise}
 
 pub came_open : (o : Opening) → Came (open_of o).tracker
 came_open = rules.came_open
 
 pub came_interval : (t : Tracker) → Came t → (b : List ℕ) → Came (interval_of t b).tracker
-came_interval = rules.came_after
+came_interval t came b = rules.came_after t came (Interval b)
 
 pub came_set : (t : Tracker) → Came t → (s : List ℕ) → Came (set_of t s).tracker
-came_set = rules.came_after_set
+came_set t came s = rules.came_after t came (Set s)
 
 -- What a list of calls left came from an opening and calls.
 pub came_ran : {t : Tracker} (o : Opening) (calls : List Call) → t ≡ run_calls o calls → Came t
@@ -93,9 +96,9 @@ module _ (t : Tracker) (o : Opening) (calls : List Call) (q : t ≡ run_calls o 
   awaits : t.awaited ≡ awaited_from o calls
   awaits = (rules.claim t o calls q).awaits
 
-  call_after : (b : List ℕ) → CallAfter o calls b (interval_of t b)
+  interval_after : (b : List ℕ) → IntervalAfter o calls b (interval_of t b)
   unfolding interval_of interval_outcome
-  call_after b =
+  interval_after b =
       let outcome = ap (λ (n : ℕ). judged (interval_conditions n b)) awaits in
       record {
         outcome = outcome;
@@ -114,7 +117,7 @@ module _ (t : Tracker) (o : Opening) (calls : List Call) (q : t ≡ run_calls o 
       }
 
 pub interval_promise : (t : Tracker) → Came t → (b : List ℕ) {r : Answer} → r ≡ interval_of t b → IntervalPromise t b r
-interval_promise t came b e = rw e (record { is = refl; came = came_interval t came b; call = λ o calls q. call_after t o calls q b })
+interval_promise t came b e = rw e (record { is = refl; came = came_interval t came b; call = λ o calls q. interval_after t o calls q b })
 
 pub set_promise : (t : Tracker) → Came t → (s : List ℕ) {r : SetAnswer} → r ≡ set_of t s → SetPromise t s r
 set_promise t came s e =
@@ -169,7 +172,7 @@ pub row_direction : {t : Tracker} {d : ℕ} {r : RowAnswer} → Came t → RowPr
 row_direction {d = d} came row l =
     let o = came.opening in
     let calls = singly came.calls in
-    ap (λ (x : Row). x.direction) (row.claim o calls (rules.came_singly came) (omega arith)).is_worked ∙ worked_direction (settings_of o) (first_of o) d (history o d (accepted o calls))
+    ap (λ (x : Row). x.direction) (row.claim o calls came.is (omega arith)).is_worked ∙ worked_direction (settings_of o) (first_of o) d (history o d (accepted o calls))
 
 -- After an accepted call a row has the n that was awaited. (The next awaited number is one more: `awaits_one_more`.)
 pub row_number : {t : Tracker} {b : List ℕ} {a : Answer} {d : ℕ} {r : RowAnswer} (o : Opening) (calls : List Call)

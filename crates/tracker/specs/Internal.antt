@@ -40,10 +40,10 @@ stepped set events ss d = step_of set d (get_or events d no_event) (get_or ss d 
 abbrev pub all_stepped : Settings → List Event → List Direction → List Direction
 all_stepped set events ss = of_directions (stepped set events ss)
 
--- the tracker after all records of a set, or why it is refused (N10)
-abbrev pub taken_or : SetOutcome → Tracker → Result Tracker SetRefusal
-taken_or (Ok done) t = Ok t
-taken_or (Err r) t = Err r
+-- the tracker after all records of a set, or why the set is refused (N10)
+abbrev pub or_refused : SetOutcome → Tracker → Result Tracker SetRefusal
+or_refused (Ok done) t = Ok t
+or_refused (Err r) t = Err r
 
-abbrev pub taken_by : Tracker → List ℕ → Result Tracker SetRefusal
-taken_by t s = taken_or (set_outcome t.awaited s) (foldl after t (records_in s))
+abbrev pub after_all : Tracker → List ℕ → Result Tracker SetRefusal
+after_all t s = or_refused (set_outcome t.awaited s) (foldl after t (records_in s))

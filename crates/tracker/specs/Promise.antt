@@ -31,21 +31,20 @@ pub use Rattle.rules.specs.Record.{byte_at, record_number, issue}
 pub use Rattle.rules.specs.Refusal.{number, Outcome, number_of, is_accepted, Condition, ◌when◌, judged, number_met}
 unfoldable pub use Rattle.rules.specs.Refusal.{each}
 unfoldable pub use Rattle.rules.specs.Refusal.{open_conditions, interval_conditions, row_conditions}
--- the calls, a list of interval calls from an opening, and that a tracker came from such a list
+-- the calls and what they return, and that a tracker came from an opening and calls
 pub use Rattle.rules.specs.Tracker.{Opening, opening_with, opening, first_of, shares_of, settings_of, accepts, open_of, interval_of, row_of, no_row, row_answer, after}
-unfoldable pub use Rattle.rules.specs.Tracker.{run}
 pub use Rattle.rules.specs.Claim.{Came}
--- a set of intervals (N10): its records end to end, which a journal has too, how it ends, and the same said by the single calls
+-- records end to end, which a journal has too, and a set of intervals (N10): how it ends, and the same said by the single calls
 pub use Rattle.rules.specs.Record.{record_length, record_count, record_at, records_in}
 pub use Rattle.rules.specs.Refusal.{most_records}
 unfoldable pub use Rattle.rules.specs.Refusal.{bad_records}
 pub use Rattle.rules.specs.declared.SetRefusal.{SetRefusal}
 pub use Rattle.rules.specs.declared.SetAnswer.{SetAnswer}
-pub use Rattle.rules.specs.Sets.{SetOutcome, number_and_index, refused_at, else_rest, takes, set_of, turn_of, AcceptedInTurn, BySingleCalls}
+pub use Rattle.rules.specs.Sets.{SetOutcome, number_and_index, else_rest, accepts_set, set_of, single_outcome, AcceptedInTurn, BySingleCalls}
 unfoldable pub use Rattle.rules.specs.Sets.{outcome_in_turn, set_conditions, set_outcome}
 -- a list of calls from an opening, in which single intervals and sets are mixed (N10)
-pub use Rattle.rules.specs.Sets.{Call, Interval, Set, after_call, singly}
-unfoldable pub use Rattle.rules.specs.Sets.{run_calls}
+pub use Rattle.rules.specs.Calls.{Call, Interval, Set, after_call, singly, run}
+unfoldable pub use Rattle.rules.specs.Calls.{run_calls}
 -- what follows from an opening and records alone: the accepted ones, the awaited number, the history of a direction, its row
 pub use Rattle.rules.specs.declared.Event.{Event}
 pub use Rattle.rules.specs.Record.{event_of}
@@ -83,9 +82,9 @@ pub record OpenPromise (o : Opening) (r : Answer) : Type 0 where
   pub ran : r.tracker ≡ run_calls o []
   pub claim : Claim o [] r.tracker
 
--- The call of a record b after a list of calls from an opening: its outcome is that of numbers 1 to 8 at the number which they await, the
+-- The call of a record b after a list of calls from an opening: its outcome is that of numbers 1 to 8 at the number which these calls await, the
 -- tracker returned is the run of that list with this call at its end, and the claim of the longer list holds of it.
-pub record CallAfter (o : Opening) (calls : List Call) (b : List ℕ) (r : Answer) : Type 0 where
+pub record IntervalAfter (o : Opening) (calls : List Call) (b : List ℕ) (r : Answer) : Type 0 where
   pub outcome : r.outcome ≡ judged (interval_conditions (awaited_from o calls) b)
   pub number : number_of r.outcome ≡ number_met (interval_conditions (awaited_from o calls) b)
   pub ran : r.tracker ≡ run_calls o (calls ++ (Interval b ∷ []))
@@ -96,10 +95,10 @@ pub record CallAfter (o : Opening) (calls : List Call) (b : List ℕ) (r : Answe
 pub record IntervalPromise (t : Tracker) (b : List ℕ) (r : Answer) : Type 0 where
   pub is : r ≡ interval_of t b
   pub came : Came r.tracker
-  pub call : (o : Opening) (calls : List Call) → t ≡ run_calls o calls → CallAfter o calls b r
+  pub call : (o : Opening) (calls : List Call) → t ≡ run_calls o calls → IntervalAfter o calls b r
 
--- The call of a set s (N10) after a list of calls from an opening: it ends as its records do in their turn, from the number which they await on,
--- or with 15; the tracker returned is the run of that list with this call at its end, and the claim of the longer list holds of it.
+-- The call of a set s (N10) after a list of calls from an opening: its outcome is that of 15 and of its records in their turn, from the number which
+-- these calls await on, the tracker returned is the run of that list with this call at its end, and the claim of the longer list holds of it.
 pub record SetAfter (o : Opening) (calls : List Call) (s : List ℕ) (r : SetAnswer) : Type 0 where
   pub outcome : r.outcome ≡ set_outcome (awaited_from o calls) s
   pub ran : r.tracker ≡ run_calls o (calls ++ (Set s ∷ []))
@@ -109,7 +108,7 @@ pub record SetAfter (o : Opening) (calls : List Call) (s : List ℕ) (r : SetAns
 -- opening and list, of single intervals and sets, that led to t.
 pub record SetPromise (t : Tracker) (s : List ℕ) (r : SetAnswer) : Type 0 where
   pub is : r ≡ set_of t s
-  pub single_calls : BySingleCalls t s r.outcome
+  pub single_calls : BySingleCalls t s r
   pub came : Came r.tracker
   pub call : (o : Opening) (calls : List Call) → t ≡ run_calls o calls → SetAfter o calls s r
 

@@ -7,7 +7,7 @@ ghost use Rattle.rules.specs.Interval.{fresh};
 ghost use Rattle.rules.specs.Refusal.{each, share_ok, open_outcome};
 ghost use Rattle.rules.specs.Tracker.{tracker, accepts, advanced, row_of};
 ghost use Rattle.tracker.specs.Promise.{Came, OpenPromise, IntervalPromise, SetPromise, RowPromise, opening_with, opening};
-ghost use Rattle.tracker.specs.Internal.{AllSteppable, all_stepped, taken_by};
+ghost use Rattle.tracker.specs.Internal.{AllSteppable, all_stepped, after_all};
 
 use record::Record;
 use rules::{
@@ -121,17 +121,13 @@ pub fn interval(tracker: Tracker, bytes: &[u8]) -> Answer
     }
 }
 
-// The tracker after all records of a set in their turn, each taken by a single call; or the number and the index of the first that is not accepted.
-// 15 comes before any record is looked at.
-fn all_taken(tracker: Tracker, bytes: &[u8]) -> Result<Tracker, SetRefusal>
+// The tracker after all records of a set, each taken in its turn by a single call; or the number and the index of the first that is refused.
+fn after_all(tracker: Tracker, bytes: &[u8]) -> Result<Tracker, SetRefusal>
     requires { Came tracker }
-    ensures { result ≡ taken_by tracker bytes.now }
+    ensures { result ≡ after_all tracker bytes.now }
 {
-    if rules::bad_records(bytes) {
-        return Err(SetRefusal {
-            why: Refusal::BadRecords,
-            index: 0,
-        });
+    if let Err(why) = Refusal::BadRecords.when(rules::bad_records(bytes)) {
+        return Err(SetRefusal { why, index: 0 });
     }
     let mut now = tracker;
     let records = bytes.as_chunks::<RECORD>().0;
@@ -150,7 +146,7 @@ pub fn set_of_intervals(tracker: Tracker, bytes: &[u8]) -> SetAnswer
     requires { Came tracker }
     ensures { SetPromise tracker bytes.now result }
 {
-    match all_taken(tracker, bytes) {
+    match after_all(tracker, bytes) {
         Ok(now) => SetAnswer {
             outcome: Ok(()),
             tracker: now,

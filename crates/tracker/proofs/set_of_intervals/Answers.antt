@@ -8,11 +8,11 @@ use Rattle.tracker.proofs.set_of_intervals.Goals as goal
 pub returns-in-Ok : goal.returns-in-Ok
 unfolding set_of
 returns-in-Ok c =
-    let r = is_taken (set_outcome c.args.tracker.awaited c.args.bytes.now) (sym c.all_taken.ensures ∙ c.in-Ok.is) in
+    let r = is_taken (set_outcome c.args.tracker.awaited c.args.bytes.now) (sym c.after_all.ensures ∙ c.in-Ok.is) in
     set_promise c.args.tracker c.requires c.args.bytes.now (rw (r.0, r.1) refl)
 
 pub returns-in-Err : goal.returns-in-Err
 unfolding set_of
 returns-in-Err c =
-    let e = is_refused (set_outcome c.args.tracker.awaited c.args.bytes.now) _ (sym c.all_taken.ensures ∙ c.in-Err.is) in
+    let e = is_refused (set_outcome c.args.tracker.awaited c.args.bytes.now) _ (sym c.after_all.ensures ∙ c.in-Err.is) in
     set_promise c.args.tracker c.requires c.args.bytes.now (rw e refl)
