@@ -44,7 +44,7 @@ number_met_lem (c ∷ cs) = go c.met c.refusal (number_met_lem cs)
     go true k rest = refl
     go false k rest = rest
 
--- What is accepted is so in one way.
+-- An outcome that is accepted is `Ok`.
 pub is_accepted_lem : (o : Outcome) → is_accepted o ≡ true → o ≡ Ok tt
 is_accepted_lem (Ok done) e = refl
 is_accepted_lem (Err k) e = absurd (false≢true e)

@@ -6,12 +6,12 @@ use mathlib.Core.List.{List, [], ◌∷◌, ◌++◌, foldl, foldl-map, reverse,
 use Prim.Native.Nat.{ℕ, suc}
 use Rattle.rules.specs.declared.Tracker.{Tracker}
 use Rattle.rules.specs.Record.{records_in}
-use Rattle.rules.specs.Refusal.{is_accepted, judged, interval_outcome}
+use Rattle.rules.specs.Refusal.{is_accepted, interval_outcome}
 use Rattle.rules.specs.Tracker.{Opening, open_of, accepts, advanced, interval_of, after}
-use Rattle.rules.specs.Sets.{outcome_in_turn, set_conditions, set_outcome, accepts_set, set_of}
+use Rattle.rules.specs.Sets.{outcome_in_turn, accepts_set, set_of}
 use Rattle.rules.specs.Calls.{Call, Interval, Set, after_call, run_calls, singly}
 use Rattle.rules.specs.Claim.{awaited_after, accept_call, accepted}
-use Rattle.rules.proofs.Sets.{both_accepted}
+use Rattle.rules.proofs.Sets.{both_accepted, records_accepted}
 
 -- A relation that two steps keep, two folds keep.
 fold_keeps : {A B C : Type 0} (R : A → B → Type 0) (f : A → C → A) (g : B → C → B) → ((a : A) (b : B) (c : C) → R a b → R (f a c) (g b c)) → (l : List C) (a : A) (b : B) → R a b → R (foldl f a l) (foldl g b l)
@@ -60,14 +60,13 @@ module _ (o : Opening) where
 
     -- an accepted set is its single calls, and a refused one changes nothing on either side
     one_set : (t : Tracker) (bs : List (List ℕ)) (s : List ℕ) → Beside t bs → Beside (after_call t (Set s)) (accept_call o bs (Set s))
-    unfolding set_outcome set_of accept_call
+    unfolding set_of accept_call
     one_set t bs s r = rw (← r.awaits) (go (accepts_set t.awaited s) refl)
       where
         go : (y : Bool) → accepts_set t.awaited s ≡ y → Beside (cond y (foldl after t (records_in s)) t) (cond y (reverse (records_in s) ++ bs) bs)
         go true e =
             let rs = records_in s in
-            let taken = both_accepted (judged (set_conditions s)) 0 (outcome_in_turn t.awaited 0 rs) e in
-            rw (← all_join rs bs 0 (rw (← r.awaits) taken.1), foldl-map Interval (accept_call o) rs bs) (fold_keeps Beside after (λ w b. accept_call o w (Interval b)) one_interval rs t bs r)
+            rw (← all_join rs bs 0 (rw (← r.awaits) (records_accepted t.awaited s e)), foldl-map Interval (accept_call o) rs bs) (fold_keeps Beside after (λ w b. accept_call o w (Interval b)) one_interval rs t bs r)
         go false e = r
 
     one_call : (t : Tracker) (bs : List (List ℕ)) (c : Call) → Beside t bs → Beside (after_call t c) (accept_call o bs c)

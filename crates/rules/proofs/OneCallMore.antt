@@ -11,11 +11,11 @@ use Rattle.rules.specs.declared.Settings.{Settings}
 use Rattle.rules.specs.Record.{record_number, records_in, event_of}
 use Rattle.rules.specs.Refusal.{is_accepted, judged, interval_conditions, interval_outcome}
 use Rattle.rules.specs.Tracker.{Opening, first_of, settings_of}
-use Rattle.rules.specs.Sets.{outcome_in_turn, set_conditions, set_outcome}
+use Rattle.rules.specs.Sets.{set_outcome}
 use Rattle.rules.specs.Calls.{Call, Interval, Set, singly}
 use Rattle.rules.specs.Claim.{awaited_after, accept_call, accepted, history, worked_row, awaited_from, worked_from}
 use Rattle.rules.proofs.Accepted.{accepted_is}
-use Rattle.rules.proofs.Sets.{both_accepted}
+use Rattle.rules.proofs.Sets.{records_accepted}
 use Rattle.rules.proofs.Lists.{all_join}
 
 module _ (o : Opening) (calls : List Call) where
@@ -70,11 +70,9 @@ module _ (o : Opening) (calls : List Call) (s : List ℕ) where
 
     -- and so its records would, each in a single call.
     pub accepted_singly : accepted o with_set ≡ accepted o (calls ++ singly (records_in s))
-    unfolding set_outcome
     accepted_singly =
         let rs = records_in s in
-        let taken = both_accepted (judged (set_conditions s)) 0 (outcome_in_turn (awaited_from o calls) 0 rs) (ap is_accepted ok) in
-        accepted_set ∙ sym (accepted_on o calls (singly rs) ∙ all_join o rs (accepted o calls) 0 taken.1)
+        accepted_set ∙ sym (accepted_on o calls (singly rs) ∙ all_join o rs (accepted o calls) 0 (records_accepted (awaited_from o calls) s (ap is_accepted ok)))
 
 -- a row has the direction that it is worked out for
 pub worked_direction : (set : Settings) (first d : ℕ) (es : List Event) → (worked_row set first d es).direction ≡ d

@@ -15,9 +15,9 @@ use Rattle.rules.specs.declared.Refusal.{Refusal}
 use Rattle.rules.specs.declared.Refusal.TheVariants.{BadRecords}
 use Rattle.rules.specs.declared.Tracker.{Tracker}
 use Rattle.rules.specs.Record.{record_number, record_length, record_count, records_in}
-use Rattle.rules.specs.Refusal.{Outcome, number_of, is_accepted, most_records, bad_records, interval_outcome}
+use Rattle.rules.specs.Refusal.{Outcome, number_of, is_accepted, judged, most_records, bad_records, interval_outcome}
 use Rattle.rules.specs.Tracker.{accepts, advanced, interval_of, after}
-use Rattle.rules.specs.Sets.{SetOutcome, number_and_index, else_rest, outcome_in_turn, set_conditions, set_outcome, set_of, single_outcome, AcceptedInTurn, BySingleCalls}
+use Rattle.rules.specs.Sets.{SetOutcome, number_and_index, else_rest, outcome_in_turn, set_conditions, set_outcome, accepts_set, set_of, single_outcome, AcceptedInTurn, BySingleCalls}
 use Rattle.rules.proofs.Accepted.{is_accepted_lem}
 use Rattle.rules.proofs.EachBelow.{both_false}
 use Rattle.rules.proofs.EndToEnd.{how_many}
@@ -64,6 +64,11 @@ each_in_turn t index (b ∷ bs) e (suc i) h =
     let both = both_accepted (interval_outcome t.awaited b) index _ e in
     each_in_turn (after t b) (suc index) bs (rw (awaits_next t b both.0) both.1) i (omega arith)
 
+-- The records of an accepted set are accepted in their turn.
+pub records_accepted : (awaited : ℕ) (s : List ℕ) → accepts_set awaited s ≡ true → is_accepted (outcome_in_turn awaited 0 (records_in s)) ≡ true
+unfolding set_outcome
+records_accepted awaited s e = (both_accepted (judged (set_conditions s)) 0 (outcome_in_turn awaited 0 (records_in s)) e).1
+
 -- ---- a set's length, as a journal's records have it
 module _ (s : List ℕ) where
   -- 0 to 288 whole records are taken,
@@ -85,10 +90,10 @@ empty_set t = refl
 
 -- ---- a set
 module _ (t : Tracker) (s : List ℕ) where
-  -- Of a wrong length it is refused,
-  pub refused_length : bad_records s ≡ true → set_outcome t.awaited s ≡ Err (record { why = BadRecords; index = 0 })
-  unfolding set_conditions set_outcome
-  refused_length bad = rw bad refl
+  -- Refused for its length it has that number and index 0,
+  pub refused_length : {why : Refusal} → judged (set_conditions s) ≡ Err why → set_outcome t.awaited s ≡ Err (record { why = why; index = 0 })
+  unfolding set_outcome
+  refused_length e = rw e refl
 
   module _ (whole : bad_records s ≡ false) where
     -- and else its records decide:
@@ -125,9 +130,9 @@ module _ (t : Tracker) (s : List ℕ) where
         go (Err why) e n = ap number_and_index (refused_record i l all why e) ∙ ap (λ (k : ℕ). some (k, i)) (some_inj.0 n)
 
   pub by_single_calls : BySingleCalls t s (set_of t s)
-  unfolding set_of
+  unfolding set_conditions set_of
   by_single_calls = record {
-    wrong_length = λ bad. ap number_and_index (refused_length bad);
+    wrong_length = λ bad. ap number_and_index (refused_length {why = BadRecords} (rw bad refl));
     all_or_none = λ whole. (all_accepted whole, none_refused whole);
     first_refused = first_refused_number;
     in_order = λ e. rw e refl;

@@ -10,6 +10,7 @@ pub data Call : Type 0 where
   Interval : List ℕ → Call
   Set : List ℕ → Call
 
+-- The tracker after a call: of a refused one it is the one before.
 abbrev pub after_call : Tracker → Call → Tracker
 after_call t (Interval b) = after t b
 after_call t (Set s) = (set_of t s).tracker

@@ -78,8 +78,8 @@ pub record ClaimOf (o : Opening) (bs : List (List ℕ)) (t : Tracker) : Type 0 w
 abbrev pub Claim : Opening → List Call → Tracker → Type 0
 Claim o calls t = ClaimOf o (accepted o calls) t
 
--- A tracker comes only from an opening and the calls after it. These are single ones: an accepted set's tracker is that of the single calls in
--- order, and a refused one's is the tracker as before (N10).
+-- A tracker comes only from an opening and the calls after it. Interval calls are enough to say so: an accepted set's tracker is that of the single
+-- calls in order, and a refused one's is the tracker as before (N10).
 pub record Came (t : Tracker) : Type 0 where
   pub opening : Opening
   pub calls : List (List ℕ)

@@ -8,14 +8,12 @@ use native.Mathlib.Omega.{arith}
 use lib.ListN.{length, get_or, take}
 use lib.Seq.{take-suc}
 use Rattle.std.specs.Prelude.{Ok, Err}
-use Rattle.rules.specs.declared.Refusal.{Refusal}
-use Rattle.rules.specs.declared.Refusal.TheVariants.{BadRecords}
-use Rattle.rules.specs.Refusal.{◌when◌, judged, bad_records}
+use Rattle.rules.specs.Refusal.{judged, bad_records}
 use Rattle.rules.specs.declared.Answer.{Answer}
 use Rattle.rules.specs.declared.SetRefusal.{SetRefusal}
 use Rattle.rules.specs.declared.Tracker.{Tracker}
 use Rattle.rules.specs.Tracker.{interval_of, after}
-use Rattle.rules.specs.Sets.{SetOutcome, set_conditions, set_outcome, single_outcome, AcceptedInTurn}
+use Rattle.rules.specs.Sets.{SetOutcome, set_conditions, single_outcome, AcceptedInTurn}
 use Rattle.rules.specs.Claim.{Came}
 use Rattle.rules.proofs.Accepted.{accepted_iff}
 use Rattle.tracker.specs.Internal.{or_refused}
@@ -32,13 +30,10 @@ module _ (t : Tracker) (bs : List (List ℕ)) (i : ℕ) {now : Tracker} {a : Ans
       ∙ ap (λ (now : Tracker). after now (get_or bs i [])) was
       ∙ sym (ap (λ (k : ℕ). foldl after t (take k bs)) next ∙ ap (foldl after t) (take-suc bs i [] l) ∙ foldl-append after t (take i bs) (get_or bs i [] ∷ []))
 
--- The set's length: refused it gives 15 with index 0, and taken it is that of 0 to 288 records.
-pub refused_length : (t : Tracker) (s : List ℕ) {why : Refusal} → judged (BadRecords when bad_records s ∷ []) ≡ Err why → set_outcome t.awaited s ≡ Err (record { why = why; index = 0 })
-unfolding set_conditions set_outcome
-refused_length t s e = rw e refl
-
-pub length_taken : (s : List ℕ) → judged (BadRecords when bad_records s ∷ []) ≡ Ok tt → bad_records s ≡ false
-length_taken s e = ((accepted_iff (BadRecords when bad_records s ∷ [])).0 e).0
+-- A set whose length is taken is one of 0 to 288 records.
+pub length_taken : (s : List ℕ) → judged (set_conditions s) ≡ Ok tt → bad_records s ≡ false
+unfolding set_conditions
+length_taken s e = ((accepted_iff (set_conditions s)).0 e).0
 
 -- The first i records were accepted in their turn, and the tracker is the one that their single calls left.
 pub record TakenSoFar (t : Tracker) (bs : List (List ℕ)) (now : Tracker) (i : ℕ) : Type 0 where

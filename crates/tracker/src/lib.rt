@@ -146,16 +146,11 @@ pub fn set_of_intervals(tracker: Tracker, bytes: &[u8]) -> SetAnswer
     requires { Came tracker }
     ensures { SetPromise tracker bytes.now result }
 {
-    match after_all(tracker, bytes) {
-        Ok(now) => SetAnswer {
-            outcome: Ok(()),
-            tracker: now,
-        },
-        Err(refused) => SetAnswer {
-            outcome: Err(refused),
-            tracker,
-        },
-    }
+    let (outcome, tracker) = match after_all(tracker, bytes) {
+        Ok(now) => (Ok(()), now),
+        Err(refused) => (Err(refused), tracker),
+    };
+    SetAnswer { outcome, tracker }
 }
 
 // What direction d shows, a number as in `step`.

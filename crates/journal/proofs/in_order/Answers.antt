@@ -7,10 +7,9 @@ use Rattle.std.specs.declared.slice.Windows.{Windows}
 use Rattle.std.proofs.lemmas.Iterator.{YieldsList}
 use Rattle.std.proofs.lemmas.Iterator.Search.{all_from_yields_List}
 use borrow.Author.Tests.{tests}
-use Rattle.tracker.specs.Promise.{record_number, issue}
+use Rattle.tracker.specs.Promise.{record_number, issue, records_in}
 use Rattle.tracker.proofs.Promise.{each_item, each_same}
 use Rattle.journal_rules.specs.Journal.{follows, followed_at, record_count, in_order}
-use Rattle.tracker.specs.Promise.{records_in}
 use Rattle.journal_rules.proofs.OneByOne.{how_many, number_in, issue_in}
 use Rattle.journal.proofs.in_order.Goals as goal
 

@@ -1,16 +1,18 @@
 -- The length is judged first, then each record in its turn.
 use Rattle.std.proofs.Common.{◌≡◌, refl, sym, ap, ◌∙◌, Ok, length, arith, take_all, below_more}
 use Rattle.rules.specs.Record.{records_in}
-use Rattle.rules.specs.Sets.{single_outcome}
+use Rattle.rules.specs.Sets.{set_conditions, single_outcome}
 use Rattle.rules.proofs.EndToEnd.{how_many}
-use Rattle.rules.proofs.Sets.{refused_record, none_refused}
-use Rattle.tracker.proofs.InTurn.{in_its_turn, one_later, refused_length, length_taken}
+use Rattle.rules.proofs.Sets.{refused_length, refused_record, none_refused}
+use Rattle.tracker.proofs.InTurn.{in_its_turn, one_later, length_taken}
 use Rattle.tracker.proofs.after_all.Goals as goal
 
 pub returns-in-Err : goal.returns-in-Err
+unfolding set_conditions
 returns-in-Err c = rw (refused_length c.args.tracker c.args.bytes.now (sym (rw c.bad_records.ensures at c.when.ensures) ∙ c.in-Err.is)) refl
 
 pub returns-in-Err-outcome : goal.returns-in-Err-outcome
+unfolding set_conditions
 returns-in-Err-outcome c =
     let t = c.args.tracker in
     let s = c.args.bytes.now in
@@ -35,6 +37,7 @@ loop-index-preserved c =
     }
 
 pub returns : goal.returns
+unfolding set_conditions
 returns c =
     let s = c.args.bytes.now in
     let bs = c.as_chunks.result.0.now in
