@@ -1,15 +1,17 @@
-// Runs scripts of calls through the library, each on one tracker: for each script its name, and a line for each call with its answer. The
-// gate compares what is printed with stored answers. The arguments are two files a script: its calls, and the records that they refer to.
+// Runs scripts of calls through the library, each on one tracker and its kept states (N11): for each script its name, and a line for each call with
+// its answer. The gate compares what is printed with stored answers. The arguments are two files a script: its calls, and the records that they refer
+// to.
 
 #![tactic(auto)]
 
 ghost use Rattle.std.specs.Prelude.{◌≡◌, ◌<◌, length, slice_range, IfOk, MatchOption};
-ghost use Rattle.tracker.specs.Promise.{Came};
+ghost use Rattle.keeper.specs.Promise.{CameKeeper};
 ghost use Rattle.calls.specs.Internal.{call_words, word_of, part_end};
 
 use journal::TRAILER;
+use keeper::{Keeper, KeeperAnswer, KeeperSetAnswer};
 use report::{SETTINGS, print_number};
-use rules::{Answer, Refusal, SetAnswer, Settings, Tracker};
+use rules::{Refusal, Settings};
 use std::rt::Files;
 use std::{array, io};
 
@@ -33,6 +35,8 @@ enum Call<'a> {
     },
     Interval(&'a [u8]),
     Set(&'a [u8]),
+    Keep(usize),
+    Return(usize),
     Row(usize),
     Read(&'a [u8]),
     Write {
@@ -92,6 +96,10 @@ impl<'a> Call<'a> {
             2 => Some(Call::Interval(part_of(call, records)?)),
             // set AT LEN
             4 => Some(Call::Set(part_of(call, records)?)),
+            // keep K
+            5 => Some(Call::Keep(word(call, 1) as usize)),
+            // return K
+            6 => Some(Call::Return(word(call, 1) as usize)),
             // row D
             7 => Some(Call::Row(word(call, 1) as usize)),
             // read AT LEN
@@ -121,20 +129,20 @@ fn number_of<T: Drop>(answer: Result<T, Refusal>) -> u64 {
     answer.err().map_or(0, |why| u64::from(u8::from(why)))
 }
 
-// What an opening or an interval call answers. A refused one too goes on with the tracker beside it. `Came` is what is asked of a tracker, here and
-// below, as in crate `tracker`.
-fn print_answer(rt: &impl Print, answer: Answer) -> io::Result<Tracker>
-    requires { Came answer.tracker }
-    ensures { IfOk result Came }
+// What an opening, an interval call, a keep and a return answer. A refused one too goes on with the keeper beside it. `CameKeeper` is what is asked
+// of a keeper, here and below, as in crate `keeper`.
+fn print_answer(rt: &impl Print, answer: KeeperAnswer) -> io::Result<Keeper>
+    requires { CameKeeper answer.keeper }
+    ensures { IfOk result CameKeeper }
 {
     print_number(rt, number_of(answer.outcome), b'\n')?;
-    Ok(answer.tracker)
+    Ok(answer.keeper)
 }
 
 // What the call of a set answers: the number and the index, 0 0 if accepted.
-fn print_set_answer(rt: &impl Print, answer: SetAnswer) -> io::Result<Tracker>
-    requires { Came answer.tracker }
-    ensures { IfOk result Came }
+fn print_set_answer(rt: &impl Print, answer: KeeperSetAnswer) -> io::Result<Keeper>
+    requires { CameKeeper answer.keeper }
+    ensures { IfOk result CameKeeper }
 {
     let refused = answer.outcome.err();
     print_number(
@@ -143,13 +151,13 @@ fn print_set_answer(rt: &impl Print, answer: SetAnswer) -> io::Result<Tracker>
         b' ',
     )?;
     print_number(rt, refused.map_or(0, |at| at.index as u64), b'\n')?;
-    Ok(answer.tracker)
+    Ok(answer.keeper)
 }
 
-fn print_row(rt: &impl Print, t: Tracker, direction: usize) -> io::Result<()>
-    requires { Came t }
+fn print_row(rt: &impl Print, keeper: &Keeper, direction: usize) -> io::Result<()>
+    requires { CameKeeper keeper.now }
 {
-    let answer = tracker::row(&t, direction);
+    let answer = keeper::row(keeper, direction);
     print_number(rt, number_of(answer.outcome), b',')?;
     report::print_row(rt, answer.row)
 }
@@ -211,24 +219,26 @@ fn print_lent<F: FnOnce(&mut [u8]) -> Result<usize, Refusal>>(
     print_number(rt, u64::from(weighted_sum(out)), b'\n')
 }
 
-// One call. What may change the tracker gives the next one.
-fn run_call(rt: &impl Print, t: Tracker, call: Call) -> io::Result<Tracker>
-    requires { Came t }
-    ensures { IfOk result Came }
+// One call. What may change the keeper gives the next one.
+fn run_call(rt: &impl Print, now: Keeper, call: Call) -> io::Result<Keeper>
+    requires { CameKeeper now }
+    ensures { IfOk result CameKeeper }
 {
     match call {
-        Call::Open { first, shares } => return print_answer(rt, tracker::open(first, shares)),
+        Call::Open { first, shares } => return print_answer(rt, keeper::open(first, shares)),
         Call::OpenWithSettings {
             first,
             shares,
             settings,
         } => {
-            let opened = tracker::open_with_settings(first, shares, settings);
+            let opened = keeper::open_with_settings(first, shares, settings);
             return print_answer(rt, opened);
         }
-        Call::Interval(bytes) => return print_answer(rt, tracker::interval(t, bytes)),
-        Call::Set(bytes) => return print_set_answer(rt, tracker::set_of_intervals(t, bytes)),
-        Call::Row(direction) => print_row(rt, t, direction)?,
+        Call::Interval(bytes) => return print_answer(rt, keeper::interval(now, bytes)),
+        Call::Set(bytes) => return print_set_answer(rt, keeper::set_of_intervals(now, bytes)),
+        Call::Keep(number) => return print_answer(rt, keeper::keep(now, number)),
+        Call::Return(number) => return print_answer(rt, keeper::return_to(now, number)),
+        Call::Row(direction) => print_row(rt, &now, direction)?,
         Call::Read(journal) => print_read(rt, journal)?,
         Call::Write { records, room } => {
             print_lent(rt, room, |out| journal::write(records, out))?;
@@ -241,12 +251,12 @@ fn run_call(rt: &impl Print, t: Tracker, call: Call) -> io::Result<Tracker>
             )?;
         }
     }
-    Ok(t)
+    Ok(now)
 }
 
-// The calls of a script in their turn. Before any opening stands the tracker of one at 0 with all shares 0.
+// The calls of a script in their turn. Before any opening stands the keeper of one at 0 with all shares 0.
 fn run(rt: &impl Print, calls: &[u8], records: &[u8]) -> io::Result<()> {
-    let mut now = tracker::open(0, [0; 6]).tracker;
+    let mut now = keeper::open(0, [0; 6]).keeper;
     for call in calls.as_chunks::<CALL>().0 {
         match Call::parse(call, records) {
             Some(call) => now = run_call(rt, now, call)?,

@@ -1,9 +1,11 @@
--- Demand 3 of a list of two calls, about direction 2, of one call under settings (N2), about direction 4, and of a call with a set after it (N10),
--- about direction 6; N8's law of a list of one call; and N6's laws of the views of two rows.
+-- Demand 3 of a list of two calls, about direction 2, of one call under settings (N2), about direction 4, of a call with a set after it (N10), about
+-- direction 6, and of two calls between which a third was taken back (N11), about direction 5; N8's law of a list of one call; and N6's laws of the
+-- views of two rows.
 use Rattle.std.specs.Prelude.{Ok, true, List, [], ◌∷◌, ◌++◌, ◌≡◌, ℕ}
-use Rattle.tracker.specs.Promise.{Row, Settings, judged, open_conditions, opening_with, opening, first_of, shares_of, settings_of, accepted, awaited_from, DirectionClaim, residue_shown, together, grains_in, records_in, set_outcome, Interval, Set, singly}
+use Rattle.tracker.specs.Promise.{Row, Settings, judged, open_conditions, Opening, opening_with, opening, first_of, shares_of, settings_of, accepted, awaited_from, DirectionClaim, residue_shown, together, grains_in, records_in, interval_conditions, set_outcome, Interval, Set, singly}
 use Rattle.readers.specs.Views.{Alike, shows_anything}
 use Rattle.readers.specs.Promise.{TraderPromise, ControlPromise}
+use Rattle.example.specs.declared.Ended.{Ended}
 use Rattle.example.specs.declared.BothWays.{BothWays}
 use Rattle.example.specs.declared.Views.{Views}
 use Rattle.example.specs.declared.TwoViews.{TwoViews}
@@ -28,6 +30,12 @@ Mixed first shares b s r =
     let before = Interval b ∷ [] in
     DirectionClaim o 6 (accepted o (before ++ (Set s ∷ []))) r
     × (set_outcome (awaited_from o before) s ≡ Ok tt → DirectionClaim o 6 (accepted o (before ++ singly (records_in s))) r)
+
+-- How a record c ends after a record b, and the claim of direction 5 after both. The record that was tried in between and taken back (N11) is not
+-- named here: whatever it holds, nothing of it is left, and c may have its n.
+pub record TakenBack (o : Opening) (b c : List ℕ) (r : Ended) : Type 0 where
+  pub outcome : r.outcome ≡ judged (interval_conditions (awaited_from o (Interval b ∷ [])) c)
+  pub claim : DirectionClaim o 5 (accepted o (Interval b ∷ Interval c ∷ [])) r.row
 
 -- If the record b is accepted, forward plus reverse cents, with their leftovers, make the grains that corridor 1 has in it.
 abbrev pub Complete : ℕ → List ℕ → List ℕ → BothWays → Type 0

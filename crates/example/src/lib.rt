@@ -1,12 +1,13 @@
-// Callers of the tracker and of the two readers, as another crate would write them. What they say of their own lists of calls, demand 3 and N8's
-// law, and of the views that they were given (N6), they have from what the calls promise, and from nothing else.
+// Callers of the tracker, of a keeper (N11) and of the two readers, as another crate would write them. What they say of their own lists of calls,
+// demand 3 and N8's law, and of the views that they were given (N6), they have from what the calls promise, and from nothing else.
 
 #![tactic(auto)]
 
-ghost use Rattle.example.specs.Own.{Own, Tried, Mixed, Complete, Read, Told};
+ghost use Rattle.tracker.specs.Promise.{opening};
+ghost use Rattle.example.specs.Own.{Own, Tried, Mixed, TakenBack, Complete, Read, Told};
 
 use readers::{ControlView, TraderView};
-use rules::{Row, Settings};
+use rules::{Refusal, Row, Settings};
 
 // The rows of VIC1_NSW1 and NSW1_VIC1.
 #[derive(Clone, Copy)]
@@ -56,6 +57,29 @@ pub fn mixed(first: u32, shares: [u16; 6], bytes: &[u8], records: &[u8]) -> Row
     let one = tracker::interval(opened.tracker, bytes);
     let more = tracker::set_of_intervals(one.tracker, records);
     tracker::row(&more.tracker, 6).row
+}
+
+// How a record ended, and a row after it.
+#[derive(Clone, Copy)]
+pub struct Ended {
+    pub outcome: Result<(), Refusal>,
+    pub row: Row,
+}
+
+// How a record ends, and the row of SA1_VIC1 after it, where another one was tried in its place and taken back.
+pub fn taken_back(first: u32, shares: [u16; 6], bytes: &[u8], tried: &[u8], instead: &[u8]) -> Ended
+    ensures { TakenBack (opening first shares) bytes.now instead.now result }
+{
+    let opened = keeper::open(first, shares);
+    let one = keeper::interval(opened.keeper, bytes);
+    let kept = keeper::keep(one.keeper, 0);
+    let trial = keeper::interval(kept.keeper, tried);
+    let back = keeper::return_to(trial.keeper, 0);
+    let other = keeper::interval(back.keeper, instead);
+    Ended {
+        outcome: other.outcome,
+        row: keeper::row(&other.keeper, 5).row,
+    }
 }
 
 // The rows of a corridor's two directions after a record.

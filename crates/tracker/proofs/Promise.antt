@@ -48,7 +48,7 @@ pub use Rattle.rules.proofs.Accepted.{accepted_iff, number_met_lem}
 pub use Rattle.rules.proofs.FirstMet.{Passed, never, untested, pass, refused_at, accepted_past}
 pub use Rattle.rules.proofs.ByClaim.{NoCause, not_without_cause, clamped_at, amount_is, amount_near, none_assigned, none_in_span}
 pub use Rattle.rules.proofs.Refusals.{numbers}
-pub use Rattle.rules.proofs.Came.{ran_singly}
+pub use Rattle.rules.proofs.Came.{ran_singly, claim}
 pub use Rattle.rules.proofs.OneCallMore.{refused_longer, accepted_longer, awaits_one_more, shows_awaited, refused_set, accepted_set, accepted_singly, worked_direction}
 use Rattle.tracker.specs.Promise.{Came, OpenPromise, IntervalAfter, IntervalPromise, SetAfter, SetPromise, RowPromise}
 

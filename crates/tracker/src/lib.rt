@@ -104,7 +104,7 @@ fn advanced(t: Tracker, r: &Record<'_>) -> Tracker
 
 // Takes one interval's record, of any length and content. A refused one leaves the tracker as it was: document 01 gives it beside a refusal's
 // number, so that each way of it ends in an `Answer`, and `?` has no place. `Came` is what is asked of a tracker, here and in the crates above: a
-// rule of the project has it as the one condition of an offered call.
+// rule of the project has it as the one condition of an offered call (crate `keeper` asks the same of a keeper).
 pub fn interval(tracker: Tracker, bytes: &[u8]) -> Answer
     requires { Came tracker }
     ensures { IntervalPromise tracker bytes.now result }

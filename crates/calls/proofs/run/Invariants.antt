@@ -1,6 +1,6 @@
--- Each tracker came from an opening and calls.
-use Rattle.tracker.specs.Promise.{Came}
+-- Each keeper came from an opening and calls.
+use Rattle.keeper.specs.Promise.{CameKeeper}
 use Rattle.calls.proofs.run.Given as goal
 
 abbrev pub invariant-loop-call : goal.invariant-loop-call
-invariant-loop-call g l = Came l.now
+invariant-loop-call g l = CameKeeper l.now
