@@ -59,8 +59,8 @@ with_kept keeper k = record { tracker = keeper.tracker; kept = with_item keeper.
 unfoldable pub keep_of : Keeper → ℕ → KeeperAnswer
 keep_of keeper k = if_accepted (keep_outcome k) (with_kept keeper k) keeper
 
--- A return takes up the state kept under the number, and changes no kept state. (With nothing kept
--- there the return is refused, and the second value of `unwrap_or` is never taken.)
+-- A return takes up the state kept under the number, and changes no kept state. (With nothing kept there the return is refused, and the second value
+-- of `unwrap_or` is never taken.)
 unfoldable pub return_of : Keeper → ℕ → KeeperAnswer
 return_of keeper k =
     let state = kept_under keeper k in

@@ -26,8 +26,8 @@ path_at p k = get_or p.kept k None
 abbrev pub after_keep : Paths → ℕ → Paths
 after_keep p k = record { now = p.now; kept = with_item p.kept k (Some p.now) }
 
--- After a return the path is the one at the keeping, and no path kept changes. (With none kept there the
--- return is refused, and the second value of `unwrap_or` is never taken.)
+-- After a return the path is the one at the keeping, and no path kept changes. (With none kept there the return is refused, and the second value of
+-- `unwrap_or` is never taken.)
 abbrev pub after_return : Paths → ℕ → Paths
 after_return p k = record { now = unwrap_or (path_at p k) p.now; kept = p.kept }
 
