@@ -34,6 +34,7 @@ enum Call<'a> {
         settings: Settings,
     },
     Interval(&'a [u8]),
+    Lent(&'a [u8]),
     Set(&'a [u8]),
     Keep(usize),
     Return(usize),
@@ -94,6 +95,8 @@ impl<'a> Call<'a> {
             }),
             // interval AT LEN
             2 => Some(Call::Interval(part_of(call, records)?)),
+            // lent AT LEN
+            3 => Some(Call::Lent(part_of(call, records)?)),
             // set AT LEN
             4 => Some(Call::Set(part_of(call, records)?)),
             // keep K
@@ -137,6 +140,16 @@ fn print_answer(rt: &impl Print, answer: KeeperAnswer) -> io::Result<Keeper>
 {
     print_number(rt, number_of(answer.outcome), b'\n')?;
     Ok(answer.keeper)
+}
+
+// An interval call on a lent tracker (N14): the one of a keeper in a local.
+fn interval_on_lent(rt: &impl Print, now: Keeper, bytes: &[u8]) -> io::Result<Keeper>
+    requires { CameKeeper now }
+    ensures { IfOk result CameKeeper }
+{
+    let mut keeper = now;
+    let outcome = tracker::interval_on_lent(&mut keeper.tracker, bytes);
+    print_answer(rt, KeeperAnswer { outcome, keeper })
 }
 
 // What the call of a set answers: the number and the index, 0 0 if accepted.
@@ -202,7 +215,7 @@ fn weighted_sum(bytes: &[u8]) -> u32 {
 
 // Lends a call a buffer of so many bytes, and prints what it answers: the number, 0 if accepted, how much it gives, and all bytes of the buffer
 // afterwards. Before, they are not zeros, so that those that a call leaves alone are seen.
-fn print_lent<F: FnOnce(&mut [u8]) -> Result<usize, Refusal>>(
+fn print_with_buffer<F: FnOnce(&mut [u8]) -> Result<usize, Refusal>>(
     rt: &impl Print,
     room: usize,
     call: F,
@@ -235,16 +248,17 @@ fn run_call(rt: &impl Print, now: Keeper, call: Call) -> io::Result<Keeper>
             return print_answer(rt, opened);
         }
         Call::Interval(bytes) => return print_answer(rt, keeper::interval(now, bytes)),
+        Call::Lent(bytes) => return interval_on_lent(rt, now, bytes),
         Call::Set(bytes) => return print_set_answer(rt, keeper::set_of_intervals(now, bytes)),
         Call::Keep(number) => return print_answer(rt, keeper::keep(now, number)),
         Call::Return(number) => return print_answer(rt, keeper::return_to(now, number)),
         Call::Row(direction) => print_row(rt, &now, direction)?,
         Call::Read(journal) => print_read(rt, journal)?,
         Call::Write { records, room } => {
-            print_lent(rt, room, |out| journal::write(records, out))?;
+            print_with_buffer(rt, room, |out| journal::write(records, out))?;
         }
         Call::Survivors { journal, room } => {
-            print_lent(
+            print_with_buffer(
                 rt,
                 room,
                 |out| Ok(journal::survivors(journal, out)? as usize),

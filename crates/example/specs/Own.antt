@@ -1,8 +1,8 @@
--- Demand 3 of a list of two calls, about direction 2, of one call under settings (N2), about direction 4, of a call with a set after it (N10), about
--- direction 6, and of two calls between which a third was taken back (N11), about direction 5; N8's law of a list of one call; and N6's laws of the
--- views of two rows.
+-- Demand 3 of a list of two calls, about direction 2, of one call under settings (N2), about direction 4, of a call with a set after it (N10),
+-- about direction 6, of three calls, the second on a lent tracker (N14), about direction 1, and of two calls between which a third was taken back
+-- (N11), about direction 5; N8's law of a list of one call; and N6's laws of the views of two rows.
 use Rattle.std.specs.Prelude.{Ok, true, List, [], ◌∷◌, ◌++◌, ◌≡◌, ℕ}
-use Rattle.tracker.specs.Promise.{Row, Settings, judged, open_conditions, Opening, opening_with, opening, first_of, shares_of, settings_of, accepted, awaited_from, DirectionClaim, residue_shown, together, grains_in, records_in, interval_conditions, set_outcome, Interval, Set, singly}
+use Rattle.tracker.specs.Promise.{Row, Settings, judged, open_conditions, Opening, opening_with, opening, first_of, shares_of, settings_of, accepted, awaited_from, DirectionClaim, residue_shown, together, grains_in, records_in, interval_conditions, set_outcome, Interval, Lent, Set, singly}
 use Rattle.readers.specs.Views.{Alike, shows_anything}
 use Rattle.readers.specs.Promise.{TraderPromise, ControlPromise}
 use Rattle.example.specs.declared.Ended.{Ended}
@@ -30,6 +30,13 @@ Mixed first shares b s r =
     let before = Interval b ∷ [] in
     DirectionClaim o 6 (accepted o (before ++ (Set s ∷ []))) r
     × (set_outcome (awaited_from o before) s ≡ Ok tt → DirectionClaim o 6 (accepted o (before ++ singly (records_in s))) r)
+
+-- The claim of direction 1 after a record b, a record c on a lent tracker (N14) and a set s (N10), each accepted or refused; and the same claim of
+-- the list in which no tracker is lent.
+abbrev pub OnLent : ℕ → List ℕ → List ℕ → List ℕ → List ℕ → Row → Type 0
+OnLent first shares b c s r =
+    let o = opening first shares in
+    DirectionClaim o 1 (accepted o (Interval b ∷ Lent c ∷ Set s ∷ [])) r × DirectionClaim o 1 (accepted o (Interval b ∷ Interval c ∷ Set s ∷ [])) r
 
 -- How a record c ends after a record b, and the claim of direction 5 after both. The record that was tried in between and taken back (N11) is not
 -- named here: whatever it holds, nothing of it is left, and c may have its n.

@@ -4,7 +4,7 @@
 #![tactic(auto)]
 
 ghost use Rattle.tracker.specs.Promise.{opening};
-ghost use Rattle.example.specs.Own.{Own, Tried, Mixed, TakenBack, Complete, Read, Told};
+ghost use Rattle.example.specs.Own.{Own, Tried, Mixed, OnLent, TakenBack, Complete, Read, Told};
 
 use readers::{ControlView, TraderView};
 use rules::{Refusal, Row, Settings};
@@ -57,6 +57,18 @@ pub fn mixed(first: u32, shares: [u16; 6], bytes: &[u8], records: &[u8]) -> Row
     let one = tracker::interval(opened.tracker, bytes);
     let more = tracker::set_of_intervals(one.tracker, records);
     tracker::row(&more.tracker, 6).row
+}
+
+// The row of QLD1_NSW1 after a record, one more on a tracker that is lent, and a set of them.
+pub fn on_lent(first: u32, shares: [u16; 6], earlier: &[u8], later: &[u8], records: &[u8]) -> Row
+    ensures { OnLent first shares earlier.now later.now records.now result }
+{
+    let opened = tracker::open(first, shares);
+    let one = tracker::interval(opened.tracker, earlier);
+    let mut own = one.tracker;
+    let _ = tracker::interval_on_lent(&mut own, later);
+    let more = tracker::set_of_intervals(own, records);
+    tracker::row(&more.tracker, 1).row
 }
 
 // How a record ended, and a row after it.

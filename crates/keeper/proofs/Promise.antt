@@ -1,16 +1,16 @@
 -- Every caller meets what the calls ask: an opening gives a keeper that came from an opening and calls, and so does every call on one. With that go
--- the laws that callers need: when a keep and a return are accepted, and what the path is after them.
+-- the laws that callers need: when a keep and a return are accepted, what the path is after them, and of a keeper whose tracker was lent (N14).
 -- Assumes nothing.
 use mathlib.Core.Path.{◌≡◌, refl, sym, ap, subst, ◌∙◌}
 use mathlib.Core.List.{List, [], ◌∷◌, ◌++◌, foldl-append}
 use Prim.Native.Nat.{ℕ, ◌≤◌}
 use Rattle.std.specs.Prelude.{Ok, Option, Some, None, is_none, option_map}
-use Rattle.tracker.specs.Promise.{RowAnswer, Opening, Interval, Set, Came, Claim, RowPromise, is_accepted, run_calls}
+use Rattle.tracker.specs.Promise.{Tracker, Answer, RowAnswer, Outcome, Opening, Interval, Lent, Set, Came, Claim, LentPromise, RowPromise, is_accepted, after_call, run_calls}
 use Rattle.tracker.proofs.Promise.{came_ran, open_promise, interval_promise, set_promise, claim, number_met_lem}
 use Rattle.keeper.specs.declared.Keeper.{Keeper}
 use Rattle.keeper.specs.declared.KeeperAnswer.{KeeperAnswer}
 use Rattle.keeper.specs.declared.KeeperSetAnswer.{KeeperSetAnswer}
-use Rattle.keeper.specs.Keeper.{kept_under, keeper_open_of, keeper_interval_of, keeper_set_of, highest_place, keep_outcome, return_outcome, keep_conditions, return_conditions, keep_of, return_of, KeeperCall, OnTracker, Keep, Return, after_keeper_call, run_keeper}
+use Rattle.keeper.specs.Keeper.{kept_under, with_tracker, keeper_open_of, keeper_interval_of, keeper_set_of, highest_place, keep_outcome, return_outcome, keep_conditions, return_conditions, keep_of, return_of, KeeperCall, OnTracker, Keep, Return, after_keeper_call, run_keeper}
 use Rattle.keeper.specs.Paths.{Path, path, path_under, NoneKeepsUnder}
 use Rattle.keeper.specs.Claim.{KeeperClaim, CameKeeper}
 use Rattle.keeper.specs.Promise.{KeeperAfter, KeeperOpenPromise, KeeperIntervalPromise, KeeperSetPromise, KeepPromise, ReturnPromise, KeeperRowPromise}
@@ -88,6 +88,17 @@ keeper_set_promise keeper came s e =
       outcome = λ o calls q. (p.call o (path calls) (tracker_by_path keeper o calls q)).outcome;
       call = λ o calls q. call_after keeper o calls q (OnTracker (Set s));
     })
+
+-- ---- a keeper whose tracker its host has lent to an interval call (N14): it is left by a call on its tracker
+module _ (keeper : Keeper) {b : List ℕ} {outcome : Outcome} {afterwards : Tracker} (p : LentPromise keeper.tracker b outcome afterwards) where
+  lent_afterwards : afterwards ≡ after_call keeper.tracker (Lent b)
+  lent_afterwards = ap (λ (x : Answer). x.tracker) p.as_returned.is
+
+  pub lent_came : CameKeeper keeper → CameKeeper (with_tracker keeper afterwards)
+  lent_came came = rw lent_afterwards (came_keeper_call keeper came (OnTracker (Lent b)))
+
+  pub lent_after : (o : Opening) (calls : List KeeperCall) → keeper ≡ run_keeper o calls → KeeperAfter o calls (OnTracker (Lent b)) (with_tracker keeper afterwards)
+  lent_after o calls q = rw lent_afterwards (call_after keeper o calls q (OnTracker (Lent b)))
 
 row_stays : (keeper : Keeper) (k : ℕ) → (keep_of keeper k).keeper.tracker ≡ keeper.tracker
 unfolding keep_of

@@ -66,8 +66,7 @@ return_of keeper k =
     let state = kept_under keeper k in
     if_accepted (return_outcome k (is_none state)) (with_tracker keeper (unwrap_or state keeper.tracker)) keeper
 
--- A call that gives a keeper to go on with: one on its tracker, a single interval or a set (N10); one that keeps; and one that returns. (A row call
--- gives none.)
+-- A call that gives a keeper to go on with: any call on its tracker; one that keeps; and one that returns. (A row call gives none.)
 pub data KeeperCall : Type 0 where
   OnTracker : Call → KeeperCall
   Keep : ℕ → KeeperCall

@@ -1,4 +1,5 @@
--- Demand 3, for every opening, with any settings (N2), every list of calls, sets of intervals among them (N10), and every direction.
+-- Demand 3, for every opening, with any settings (N2), every list of calls, on a lent tracker (N14) and of sets (N10) among them, and every
+-- direction.
 -- Assumes nothing.
 use mathlib.Core.Path.{◌≡◌, refl, sym, ap, subst}
 use mathlib.Core.Bool.{Bool, true, false, not, cond}

@@ -20,6 +20,7 @@ pub mod OneDirection
 pub mod Rounding
 pub mod EndToEnd
 pub mod Sets
+pub mod LentOrNot
 pub mod Lists
 pub mod Replay
 pub mod Fresh

@@ -1,4 +1,5 @@
--- Lists of calls, in which single intervals and sets are mixed (N10): what holds at an opening, and of one accepted record more, holds after each.
+-- Lists of calls, in which single intervals, on a lent tracker (N14) or not, and sets (N10) are mixed: what holds at an opening, and of one accepted
+-- record more, holds after each.
 -- Assumes nothing.
 use mathlib.Core.Path.{◌≡◌, refl, sym, ap, ◌∙◌}
 use mathlib.Core.Bool.{Bool, true, false, cond}
@@ -9,9 +10,10 @@ use Rattle.rules.specs.Record.{records_in}
 use Rattle.rules.specs.Refusal.{is_accepted, interval_outcome}
 use Rattle.rules.specs.Tracker.{Opening, open_of, accepts, advanced, interval_of, after}
 use Rattle.rules.specs.Sets.{outcome_in_turn, accepts_set, set_of}
-use Rattle.rules.specs.Calls.{Call, Interval, Set, after_call, run_calls, singly}
+use Rattle.rules.specs.Calls.{Call, Interval, Lent, Set, after_call, run_calls, singly}
 use Rattle.rules.specs.Claim.{awaited_after, accept_call, accepted}
 use Rattle.rules.proofs.Sets.{both_accepted, records_accepted}
+use Rattle.rules.proofs.LentOrNot.{lent_leaves, lent_accepts}
 
 -- A relation that two steps keep, two folds keep.
 fold_keeps : {A B C : Type 0} (R : A → B → Type 0) (f : A → C → A) (g : B → C → B) → ((a : A) (b : B) (c : C) → R a b → R (f a c) (g b c)) → (l : List C) (a : A) (b : B) → R a b → R (foldl f a l) (foldl g b l)
@@ -71,6 +73,7 @@ module _ (o : Opening) where
 
     one_call : (t : Tracker) (bs : List (List ℕ)) (c : Call) → Beside t bs → Beside (after_call t c) (accept_call o bs c)
     one_call t bs (Interval b) r = one_interval t bs b r
+    one_call t bs (Lent b) r = rw (lent_leaves t b, lent_accepts o bs b) (one_interval t bs b r)
     one_call t bs (Set s) r = one_set t bs s r
 
     pub after_every_list : R (open_of o).tracker [] → (calls : List Call) → R (run_calls o calls) (accepted o calls)

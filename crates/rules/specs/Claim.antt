@@ -1,5 +1,5 @@
 -- Demand 3: a single claim about the whole list of calls, all its parts together. The last part of DirectionClaim, (rounding), is N9's. In the list
--- single intervals and sets are mixed (N10).
+-- single intervals, on a lent tracker (N14) or not, and sets (N10) are mixed.
 use Rattle.std.specs.Prelude.{true, false, not, cond, ◌≡◌, ℕ, suc, ◌<◌, T, pos, length}
 use mathlib.Core.List.{List, [], ◌∷◌, ◌++◌, foldl, map, reverse}
 use Rattle.units.specs.Units.{cents, grains}
@@ -13,7 +13,7 @@ use Rattle.rules.specs.Record.{record_number, event_of, records_in}
 use Rattle.rules.specs.Rounding.{Rounding}
 use Rattle.rules.specs.Tracker.{Opening, first_of, shares_of, settings_of, accepts, row, row_of, after}
 use Rattle.rules.specs.Sets.{accepts_set}
-use Rattle.rules.specs.Calls.{Call, Interval, Set, run}
+use Rattle.rules.specs.Calls.{Call, Interval, Lent, Set, run}
 
 -- Which calls are accepted follows from the opening and the records by numbers 1 to 8, of a set by 15 before them (N10). The accepted records stand
 -- the latest first.
@@ -22,10 +22,15 @@ abbrev pub awaited_after : Opening → List (List ℕ) → ℕ
 awaited_after o [] = first_of o
 awaited_after o (b ∷ bs) = suc (record_number b)
 
--- One call more: its record joins the accepted ones, or they stay as they were. An accepted set counts as its records, and a refused one as
+-- One record more: it joins the accepted ones, or they stay as they were.
+abbrev pub accept_record : Opening → List (List ℕ) → List ℕ → List (List ℕ)
+accept_record o bs b = cond (accepts (awaited_after o bs) b) (b ∷ bs) bs
+
+-- One call more. An interval call brings its record, on a lent tracker (N14) or not. An accepted set counts as its records, and a refused one as
 -- nothing (N10).
 unfoldable pub accept_call : Opening → List (List ℕ) → Call → List (List ℕ)
-accept_call o bs (Interval b) = cond (accepts (awaited_after o bs) b) (b ∷ bs) bs
+accept_call o bs (Interval b) = accept_record o bs b
+accept_call o bs (Lent b) = accept_record o bs b
 accept_call o bs (Set s) = cond (accepts_set (awaited_after o bs) s) (reverse (records_in s) ++ bs) bs
 
 unfoldable pub accepted : Opening → List Call → List (List ℕ)
@@ -78,8 +83,8 @@ pub record ClaimOf (o : Opening) (bs : List (List ℕ)) (t : Tracker) : Type 0 w
 abbrev pub Claim : Opening → List Call → Tracker → Type 0
 Claim o calls t = ClaimOf o (accepted o calls) t
 
--- A tracker comes only from an opening and the calls after it. Interval calls are enough to say so: an accepted set's tracker is that of the single
--- calls in order, and a refused one's is the tracker as before (N10).
+-- A tracker comes only from an opening and the calls after it. Interval calls that return a tracker are enough to say so: a lent one holds afterwards
+-- what such a call gives (N14), an accepted set's tracker is that of the single calls in order, and a refused one's is the tracker as before (N10).
 pub record Came (t : Tracker) : Type 0 where
   pub opening : Opening
   pub calls : List (List ℕ)

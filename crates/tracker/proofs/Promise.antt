@@ -1,6 +1,6 @@
 -- Every caller meets what the calls ask: an opening gives a tracker that came from an opening and calls, and a call keeps it. With them go the
--- laws that callers need: of ranges, conditions and tests, of records end to end and sets of them (N10), of one call more at the end of a list, and
--- of the rows that the calls return.
+-- laws that callers need: of ranges, conditions and tests, of records end to end and sets of them (N10), of lists with and without lent trackers
+-- (N14), of one call more at the end of a list, and of the rows that the calls return.
 -- Assumes nothing.
 use mathlib.Core.Bool.{Bool, true, false, not, cond}
 use mathlib.Core.List.{List, [], ◌∷◌, ◌++◌}
@@ -19,6 +19,7 @@ use Rattle.rules.specs.declared.Answer.{Answer}
 use Rattle.rules.specs.declared.RowAnswer.{RowAnswer}
 use Rattle.rules.specs.declared.SetAnswer.{SetAnswer}
 use Rattle.std.specs.Prelude.{Ok, Err}
+use Rattle.rules.specs.declared.Refusal.{Refusal}
 use Rattle.rules.specs.declared.Refusal.TheVariants.{NoDirection}
 use Rattle.rules.specs.Bounds.{RowBounds}
 use Rattle.rules.specs.Refusal.{number_of, is_accepted, judged, open_conditions, open_outcome, interval_conditions, interval_outcome, row_conditions, row_outcome}
@@ -26,7 +27,7 @@ use Rattle.rules.specs.Residue.{together}
 use Rattle.rules.specs.Record.{grains_in}
 use Rattle.rules.specs.Tracker.{Opening, first_of, shares_of, settings_of, open_of, interval_of, residue_shown, row_of, no_row, row_answer}
 use Rattle.rules.specs.Sets.{set_outcome, set_of}
-use Rattle.rules.specs.Calls.{Call, Interval, Set, after_call, run_calls, singly}
+use Rattle.rules.specs.Calls.{Call, Interval, Lent, Set, after_call, run_calls, singly}
 use Rattle.rules.specs.History.{sum_since, estimate, under_review, lies_in}
 use Rattle.rules.specs.Rounding.{assigned_span, unrounded}
 use Rattle.rules.specs.Claim.{accepted, history, awaited_from, worked_from, Claim}
@@ -39,6 +40,7 @@ use Rattle.rules.proofs.Leftover.{rows_together}
 pub use Rattle.signed.proofs.Calc.{inside}
 pub use Rattle.rules.proofs.EachBelow.{both_true, both_false, below_or_last, each_at, each_by, each_fails, each_none, each_one_more, each_up_to, each_same, each_item, each_number}
 pub use Rattle.rules.proofs.EndToEnd.{record_in, how_many}
+pub use Rattle.rules.proofs.LentOrNot.{ran_not_lent, accepted_not_lent}
 pub use Rattle.rules.proofs.Sets.{whole_records, only_whole_records, empty_set}
 pub use Rattle.rules.proofs.UnreadIssue.{under_issue, issue_unread}
 pub use Rattle.rules.proofs.TakenNumbers.{already_taken}
@@ -50,7 +52,7 @@ pub use Rattle.rules.proofs.ByClaim.{NoCause, not_without_cause, clamped_at, amo
 pub use Rattle.rules.proofs.Refusals.{numbers}
 pub use Rattle.rules.proofs.Came.{ran_singly, claim}
 pub use Rattle.rules.proofs.OneCallMore.{refused_longer, accepted_longer, awaits_one_more, shows_awaited, refused_set, accepted_set, accepted_singly, worked_direction}
-use Rattle.tracker.specs.Promise.{Came, OpenPromise, IntervalAfter, IntervalPromise, SetAfter, SetPromise, RowPromise}
+use Rattle.tracker.specs.Promise.{Came, OpenPromise, IntervalAfter, IntervalPromise, LentAfter, LentPromise, SetAfter, SetPromise, RowPromise}
 
 pub came_open : (o : Opening) → Came (open_of o).tracker
 came_open = rules.came_open
@@ -107,6 +109,9 @@ module _ (t : Tracker) (o : Opening) (calls : List Call) (q : t ≡ run_calls o 
         claim = longer (Interval b);
       }
 
+  lent_after : (b : List ℕ) → LentAfter o calls b (interval_of t b).tracker
+  lent_after b = record { ran = run_longer (Lent b); claim = longer (Lent b) }
+
   set_after : (s : List ℕ) → SetAfter o calls s (set_of t s)
   unfolding set_of
   set_after s =
@@ -118,6 +123,19 @@ module _ (t : Tracker) (o : Opening) (calls : List Call) (q : t ≡ run_calls o 
 
 pub interval_promise : (t : Tracker) → Came t → (b : List ℕ) {r : Answer} → r ≡ interval_of t b → IntervalPromise t b r
 interval_promise t came b e = rw e (record { is = refl; came = came_interval t came b; call = λ o calls q. interval_after t o calls q b })
+
+-- a refused interval leaves the tracker as it was
+refused_as_before : (t : Tracker) (b : List ℕ) {why : Refusal} → (interval_of t b).outcome ≡ Err why → (interval_of t b).tracker ≡ t
+unfolding interval_of
+refused_as_before t b e = rw e
+
+pub lent_promise : (t : Tracker) (b : List ℕ) {r : Answer} → IntervalPromise t b r → LentPromise t b r.outcome r.tracker
+lent_promise t b p =
+    record {
+      as_returned = p;
+      as_before = λ e. ap (λ (x : Answer). x.tracker) p.is ∙ refused_as_before t b (sym (ap (λ (x : Answer). x.outcome) p.is) ∙ e);
+      call = λ o calls q. rw p.is (lent_after t o calls q b);
+    }
 
 pub set_promise : (t : Tracker) → Came t → (s : List ℕ) {r : SetAnswer} → r ≡ set_of t s → SetPromise t s r
 set_promise t came s e =

@@ -2,7 +2,7 @@
 -- of the calls, of demand 3 with N9's bound, and of N8's law on a corridor's rows, and what the calls promise by them. (Crate `words`, which reads
 -- and writes bytes for all, is no part of it.) What lies under these words is not opened from above: the tests of numbers 4 to 8, 10, 19 and 20,
 -- what a record says of a direction or a corridor (event_of, grains_in, assigned_to), and what the rules make of its history (state_after).
-use Rattle.std.specs.Prelude.{List, [], ◌∷◌, ◌++◌, ◌≡◌, ℕ, ◌<◌}
+use Rattle.std.specs.Prelude.{Err, List, [], ◌∷◌, ◌++◌, ◌≡◌, ℕ, ◌<◌}
 -- amounts, flows and parts of a cent
 pub use Rattle.signed.specs.Range.{minus, negative}
 pub use Rattle.units.specs.declared.Cents.{Cents}
@@ -42,8 +42,8 @@ pub use Rattle.rules.specs.declared.SetRefusal.{SetRefusal}
 pub use Rattle.rules.specs.declared.SetAnswer.{SetAnswer}
 pub use Rattle.rules.specs.Sets.{SetOutcome, number_and_index, else_rest, accepts_set, set_of, single_outcome, AcceptedInTurn, BySingleCalls}
 unfoldable pub use Rattle.rules.specs.Sets.{outcome_in_turn, set_conditions, set_outcome}
--- a list of calls from an opening, in which single intervals and sets are mixed (N10)
-pub use Rattle.rules.specs.Calls.{Call, Interval, Set, after_call, singly, run}
+-- a list of calls from an opening, in which single intervals, on a lent tracker (N14) or not, and sets (N10) are mixed
+pub use Rattle.rules.specs.Calls.{Call, Interval, Lent, Set, after_call, not_lent, singly, run}
 unfoldable pub use Rattle.rules.specs.Calls.{run_calls}
 -- what follows from an opening and records alone: the accepted ones, the awaited number, the history of a direction, its row
 pub use Rattle.rules.specs.declared.Event.{Event}
@@ -52,7 +52,7 @@ pub use Rattle.rules.specs.Interval.{fresh}
 pub use Rattle.rules.specs.History.{state_after}
 pub use Rattle.rules.specs.Tracker.{row}
 unfoldable pub use Rattle.rules.specs.Claim.{accept_call, accepted, history, worked_row}
-pub use Rattle.rules.specs.Claim.{awaited_after, awaited_from, worked_from}
+pub use Rattle.rules.specs.Claim.{awaited_after, accept_record, awaited_from, worked_from}
 -- the words of demand 3 about a history, and the claim with its parts
 pub use Rattle.rules.specs.Interval.{place, half_hour}
 unfoldable pub use Rattle.rules.specs.History.{in_half_hour, latest_half_hour, any_negative, clearing, since_clearing, sum_negative}
@@ -90,12 +90,25 @@ pub record IntervalAfter (o : Opening) (calls : List Call) (b : List ℕ) (r : A
   pub ran : r.tracker ≡ run_calls o (calls ++ (Interval b ∷ []))
   pub claim : Claim o (calls ++ (Interval b ∷ [])) r.tracker
 
--- An interval call on a tracker t returns what document 01 says, and it is the call after every opening and list, sets among its calls (N10), that
--- led to t.
+-- An interval call on a tracker t returns what document 01 says, and it is the call after every opening and list that led to t, whatever kinds of
+-- calls the list has.
 pub record IntervalPromise (t : Tracker) (b : List ℕ) (r : Answer) : Type 0 where
   pub is : r ≡ interval_of t b
   pub came : Came r.tracker
   pub call : (o : Opening) (calls : List Call) → t ≡ run_calls o calls → IntervalAfter o calls b r
+
+-- The same call on a tracker that its host lends (N14), after a list of calls from an opening: what the lent tracker holds afterwards is the run of
+-- that list with this call at its end, and the claim of the longer list holds of it.
+pub record LentAfter (o : Opening) (calls : List Call) (b : List ℕ) (afterwards : Tracker) : Type 0 where
+  pub ran : afterwards ≡ run_calls o (calls ++ (Lent b ∷ []))
+  pub claim : Claim o (calls ++ (Lent b ∷ [])) afterwards
+
+-- An interval call on a lent tracker, which held t (N14): what it holds afterwards, and the answer, equal what the other call gives on t, so that all
+-- that is promised there holds of them; on a refusal it holds what it held. And the call is the one after every opening and list that led to t.
+pub record LentPromise (t : Tracker) (b : List ℕ) (outcome : Outcome) (afterwards : Tracker) : Type 0 where
+  pub as_returned : IntervalPromise t b (record { outcome = outcome; tracker = afterwards })
+  pub as_before : {why : Refusal} → outcome ≡ Err why → afterwards ≡ t
+  pub call : (o : Opening) (calls : List Call) → t ≡ run_calls o calls → LentAfter o calls b afterwards
 
 -- The call of a set s (N10) after a list of calls from an opening: its outcome is that of 15 and of its records in their turn, from the number which
 -- these calls await on, the tracker returned is the run of that list with this call at its end, and the claim of the longer list holds of it.
@@ -105,7 +118,7 @@ pub record SetAfter (o : Opening) (calls : List Call) (s : List ℕ) (r : SetAns
   pub claim : Claim o (calls ++ (Set s ∷ [])) r.tracker
 
 -- The call of a set on a tracker t returns what document 02 says, also as the single calls of its records say it, and it is the call after every
--- opening and list, of single intervals and sets, that led to t.
+-- opening and list that led to t, whatever kinds of calls the list has.
 pub record SetPromise (t : Tracker) (s : List ℕ) (r : SetAnswer) : Type 0 where
   pub is : r ≡ set_of t s
   pub single_calls : BySingleCalls t s r

@@ -6,7 +6,7 @@ ghost use Rattle.std.specs.Prelude.{true, ◌≡◌, ◌<◌, replicate};
 ghost use Rattle.rules.specs.Interval.{fresh};
 ghost use Rattle.rules.specs.Refusal.{each, share_ok, open_outcome};
 ghost use Rattle.rules.specs.Tracker.{tracker, accepts, advanced, row_of};
-ghost use Rattle.tracker.specs.Promise.{Came, OpenPromise, IntervalPromise, SetPromise, RowPromise, opening_with, opening};
+ghost use Rattle.tracker.specs.Promise.{Came, OpenPromise, IntervalPromise, LentPromise, SetPromise, RowPromise, opening_with, opening};
 ghost use Rattle.tracker.specs.Internal.{AllSteppable, all_stepped, after_all};
 
 use record::Record;
@@ -119,6 +119,16 @@ pub fn interval(tracker: Tracker, bytes: &[u8]) -> Answer
             tracker,
         },
     }
+}
+
+// The same on a tracker that its host lends: it is changed there (N14).
+pub fn interval_on_lent(tracker: &mut Tracker, bytes: &[u8]) -> Result<(), Refusal>
+    requires { Came tracker.old }
+    ensures { LentPromise tracker.old bytes.now result tracker.new }
+{
+    let answer = interval(*tracker, bytes);
+    *tracker = answer.tracker;
+    answer.outcome
 }
 
 // The tracker after all records of a set, each taken in its turn by a single call; or the number and the index of the first that is refused.
