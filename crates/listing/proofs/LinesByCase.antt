@@ -32,7 +32,7 @@ printed (r ∷ rows) = go (listed_of r) (printed rows)
     go false e = e
 
 -- one record's turn, by its call
-module _ (o : Opening) (passed : List Call) (bs : List (List ℕ)) {b : List ℕ} {a : Answer} (call : IntervalAfter o passed b a) where
+module _ (o : Opening) (passed : List Call) (bs : List (List ℕ)) {b : List ℕ} {a : Answer} (call : IntervalAfter Interval o passed b a) where
   abbrev upto : List Call
   upto = passed ++ (Interval b ∷ [])
 

@@ -42,7 +42,7 @@ module _ {first : ℕ} {r : List ℕ} {bs : List (List ℕ)} {t : Tracker} {d : 
 
   -- the next survivor
   module _ {b : List ℕ} {others : List (List ℕ)} (next : bs ≡ b ∷ others) {a : Answer} (p : IntervalPromise t b a) where
-    call : IntervalAfter (opened_at first) l.passed b a
+    call : IntervalAfter Interval (opened_at first) l.passed b a
     call = p.call (opened_at first) l.passed l.ran
 
     -- a refusal's line ends the listing

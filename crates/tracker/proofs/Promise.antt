@@ -52,7 +52,7 @@ pub use Rattle.rules.proofs.ByClaim.{NoCause, not_without_cause, clamped_at, amo
 pub use Rattle.rules.proofs.Refusals.{numbers}
 pub use Rattle.rules.proofs.Came.{ran_singly, claim}
 pub use Rattle.rules.proofs.OneCallMore.{refused_longer, accepted_longer, awaits_one_more, shows_awaited, refused_set, accepted_set, accepted_singly, worked_direction}
-use Rattle.tracker.specs.Promise.{Came, OpenPromise, IntervalAfter, IntervalPromise, LentAfter, LentPromise, SetAfter, SetPromise, RowPromise}
+use Rattle.tracker.specs.Promise.{Came, OpenPromise, IntervalAfter, IntervalPromise, LentPromise, SetAfter, SetPromise, RowPromise}
 
 pub came_open : (o : Opening) → Came (open_of o).tracker
 came_open = rules.came_open
@@ -98,19 +98,17 @@ module _ (t : Tracker) (o : Opening) (calls : List Call) (q : t ≡ run_calls o 
   awaits : t.awaited ≡ awaited_from o calls
   awaits = (rules.claim t o calls q).awaits
 
-  interval_after : (b : List ℕ) → IntervalAfter o calls b (interval_of t b)
+  -- of either kind of interval call, each of which leaves what the call on t gives
+  interval_after : (kind : List ℕ → Call) (b : List ℕ) → after_call t (kind b) ≡ (interval_of t b).tracker → IntervalAfter kind o calls b (interval_of t b)
   unfolding interval_of interval_outcome
-  interval_after b =
+  interval_after kind b left =
       let outcome = ap (λ (n : ℕ). judged (interval_conditions n b)) awaits in
       record {
         outcome = outcome;
         number = ap number_of outcome ∙ number_met_lem (interval_conditions (awaited_from o calls) b);
-        ran = run_longer (Interval b);
-        claim = longer (Interval b);
+        ran = sym left ∙ run_longer (kind b);
+        claim = subst (Claim o (calls ++ (kind b ∷ []))) left (longer (kind b));
       }
-
-  lent_after : (b : List ℕ) → LentAfter o calls b (interval_of t b).tracker
-  lent_after b = record { ran = run_longer (Lent b); claim = longer (Lent b) }
 
   set_after : (s : List ℕ) → SetAfter o calls s (set_of t s)
   unfolding set_of
@@ -122,7 +120,7 @@ module _ (t : Tracker) (o : Opening) (calls : List Call) (q : t ≡ run_calls o 
       }
 
 pub interval_promise : (t : Tracker) → Came t → (b : List ℕ) {r : Answer} → r ≡ interval_of t b → IntervalPromise t b r
-interval_promise t came b e = rw e (record { is = refl; came = came_interval t came b; call = λ o calls q. interval_after t o calls q b })
+interval_promise t came b e = rw e (record { is = refl; came = came_interval t came b; call = λ o calls q. interval_after t o calls q Interval b refl })
 
 -- a refused interval leaves the tracker as it was
 refused_as_before : (t : Tracker) (b : List ℕ) {why : Refusal} → (interval_of t b).outcome ≡ Err why → (interval_of t b).tracker ≡ t
@@ -134,7 +132,7 @@ lent_promise t b p =
     record {
       as_returned = p;
       as_before = λ e. ap (λ (x : Answer). x.tracker) p.is ∙ refused_as_before t b (sym (ap (λ (x : Answer). x.outcome) p.is) ∙ e);
-      call = λ o calls q. rw p.is (lent_after t o calls q b);
+      call = λ o calls q. rw p.is (interval_after t o calls q Lent b refl);
     }
 
 pub set_promise : (t : Tracker) → Came t → (s : List ℕ) {r : SetAnswer} → r ≡ set_of t s → SetPromise t s r

@@ -82,33 +82,32 @@ pub record OpenPromise (o : Opening) (r : Answer) : Type 0 where
   pub ran : r.tracker ≡ run_calls o []
   pub claim : Claim o [] r.tracker
 
--- The call of a record b after a list of calls from an opening: its outcome is that of numbers 1 to 8 at the number which these calls await, the
--- tracker returned is the run of that list with this call at its end, and the claim of the longer list holds of it.
-pub record IntervalAfter (o : Opening) (calls : List Call) (b : List ℕ) (r : Answer) : Type 0 where
+-- The call of a record b after a list of calls from an opening, of either kind, Interval or Lent (N14): its outcome is that of numbers 1 to 8 at the
+-- number which these calls await, the tracker there is afterwards is the run of that list with this call at its end, and the claim of the longer list
+-- holds of it.
+pub record IntervalAfter (kind : List ℕ → Call) (o : Opening) (calls : List Call) (b : List ℕ) (r : Answer) : Type 0 where
   pub outcome : r.outcome ≡ judged (interval_conditions (awaited_from o calls) b)
   pub number : number_of r.outcome ≡ number_met (interval_conditions (awaited_from o calls) b)
-  pub ran : r.tracker ≡ run_calls o (calls ++ (Interval b ∷ []))
-  pub claim : Claim o (calls ++ (Interval b ∷ [])) r.tracker
+  pub ran : r.tracker ≡ run_calls o (calls ++ (kind b ∷ []))
+  pub claim : Claim o (calls ++ (kind b ∷ [])) r.tracker
 
 -- An interval call on a tracker t returns what document 01 says, and it is the call after every opening and list that led to t, whatever kinds of
 -- calls the list has.
 pub record IntervalPromise (t : Tracker) (b : List ℕ) (r : Answer) : Type 0 where
   pub is : r ≡ interval_of t b
   pub came : Came r.tracker
-  pub call : (o : Opening) (calls : List Call) → t ≡ run_calls o calls → IntervalAfter o calls b r
+  pub call : (o : Opening) (calls : List Call) → t ≡ run_calls o calls → IntervalAfter Interval o calls b r
 
--- The same call on a tracker that its host lends (N14), after a list of calls from an opening: what the lent tracker holds afterwards is the run of
--- that list with this call at its end, and the claim of the longer list holds of it.
-pub record LentAfter (o : Opening) (calls : List Call) (b : List ℕ) (afterwards : Tracker) : Type 0 where
-  pub ran : afterwards ≡ run_calls o (calls ++ (Lent b ∷ []))
-  pub claim : Claim o (calls ++ (Lent b ∷ [])) afterwards
+-- An outcome, and the tracker there is afterwards, as an answer.
+abbrev pub answer : Outcome → Tracker → Answer
+answer outcome afterwards = record { outcome = outcome; tracker = afterwards }
 
 -- An interval call on a lent tracker, which held t (N14): what it holds afterwards, and the answer, equal what the other call gives on t, so that all
 -- that is promised there holds of them; on a refusal it holds what it held. And the call is the one after every opening and list that led to t.
 pub record LentPromise (t : Tracker) (b : List ℕ) (outcome : Outcome) (afterwards : Tracker) : Type 0 where
-  pub as_returned : IntervalPromise t b (record { outcome = outcome; tracker = afterwards })
+  pub as_returned : IntervalPromise t b (answer outcome afterwards)
   pub as_before : {why : Refusal} → outcome ≡ Err why → afterwards ≡ t
-  pub call : (o : Opening) (calls : List Call) → t ≡ run_calls o calls → LentAfter o calls b afterwards
+  pub call : (o : Opening) (calls : List Call) → t ≡ run_calls o calls → IntervalAfter Lent o calls b (answer outcome afterwards)
 
 -- The call of a set s (N10) after a list of calls from an opening: its outcome is that of 15 and of its records in their turn, from the number which
 -- these calls await on, the tracker returned is the run of that list with this call at its end, and the claim of the longer list holds of it.
