@@ -10,7 +10,7 @@ ghost use Rattle.calls.specs.Internal.{call_words, word_of, part_end};
 
 use journal::TRAILER;
 use keeper::{Keeper, KeeperAnswer, KeeperSetAnswer};
-use report::{SETTINGS, print_number};
+use report::{SETTINGS, number_of, print_number};
 use rules::{Refusal, Settings};
 use std::rt::Files;
 use std::{array, io};
@@ -125,11 +125,6 @@ impl<'a> Call<'a> {
 // For what no call of the library can be made of; no answer is like it.
 fn no_call(rt: &impl Print) -> io::Result<()> {
     rt.write_all(b"no call\n")
-}
-
-// The number of a refusal, 0 if accepted.
-fn number_of<T: Drop>(answer: Result<T, Refusal>) -> u64 {
-    answer.err().map_or(0, |why| u64::from(u8::from(why)))
 }
 
 // What an opening, an interval call, a keep and a return answer. A refused one too goes on with the keeper beside it. `CameKeeper` is what is asked

@@ -1,13 +1,21 @@
-// Callers of the tracker, of a keeper (N11) and of the two readers, as another crate would write them. What they say of their own lists of calls,
-// demand 3 and N8's law, and of the views that they were given (N6), they have from what the calls promise, and from nothing else.
+// Callers of the tracker, of a keeper (N11), of the two readers and of a call for a line (N3), as another crate would write them. What they say of
+// their own lists of calls, demand 3 and N8's law, of the views that they were given (N6), and of a listing that they print, they have from what the
+// calls promise, and from nothing else.
 
 #![tactic(auto)]
 
+ghost use Rattle.std.specs.Prelude.{OnOk};
+ghost use Rattle.std.specs.Io.KnownBytes.{Appends};
 ghost use Rattle.tracker.specs.Promise.{opening};
+ghost use Rattle.journal_rules.specs.Journal.{longest_journal};
+ghost use Rattle.listing.specs.Listing.{listing_in};
 ghost use Rattle.example.specs.Own.{Own, Tried, Mixed, OnLent, TakenBack, Complete, Read, Told};
 
+use line_by_line::LEAST_SCRATCH;
 use readers::{ControlView, TraderView};
 use rules::{Refusal, Row, Settings};
+use std::io;
+use std::io::Write;
 
 // The rows of VIC1_NSW1 and NSW1_VIC1.
 #[derive(Clone, Copy)]
@@ -123,5 +131,21 @@ pub fn compared(one: Row, other: Row) -> TwoViews
     TwoViews {
         one: both_views(one),
         other: both_views(other),
+    }
+}
+
+// Prints the listing of a journal, as a host that has room for one line and no more (N3): it asks for the next line until there is none.
+pub fn print_line_by_line<W: Write>(journal: &[u8], sink: &mut W) -> io::Result<()>
+    ensures { OnOk result (Appends (W.contents sink.old) (W.contents sink.new) (listing_in longest_journal journal.now)) }
+{
+    let mut scratch = [0; LEAST_SCRATCH];
+    let mut given = 0;
+    loop {
+        let n = line_by_line::next_line(journal, given, &mut scratch).unwrap_or(0);
+        if n == 0 {
+            return Ok(());
+        }
+        sink.write_all(&scratch[..n])?;
+        given += 1;
     }
 }

@@ -1,8 +1,8 @@
 -- How long lines and listings are, which lines each case gives, and examples.
-mod EightDirections
+pub mod EightDirections
 pub mod Examples
 pub mod LineLength
-mod LinesByCase
+pub mod LinesByCase
 pub mod ListingLength
-mod RefusalNumbers
+pub mod RefusalNumbers
 mod SoFar

@@ -58,7 +58,7 @@ module _ (first : ℕ) (bs : List (List ℕ)) {a : Answer} (p : OpenPromise (ope
   pub unopened : (why : Refusal) → a.outcome ≡ Err why → opened_lines first bs ≡ ended_by (number why)
   unopened why e = by_number (ap number_of e)
 
-no_records : (first : ℕ) (r : List ℕ) → length r < 168 → record_lines first (survivors r) ≡ []
+pub no_records : (first : ℕ) (r : List ℕ) → length r < 168 → record_lines first (survivors r) ≡ []
 unfolding record_lines
 no_records first r l = let none : record_count r ≤ 0 = omega arith in rw (S.rest_all r, S.rest_none r 0 none)
 

@@ -38,7 +38,7 @@ ended_parts k = simp append-nil
 pub refusal_short : (why : Refusal) → length (number_cell (number why) newline) ≤ 3
 refusal_short why = let h = two_digits why in short_count 1 (number why) newline (omega arith)
 
-ended_short : (k : ℕ) → k ≤ 99 → length (flatten (ended_by k)) ≤ 11
+pub ended_short : (k : ℕ) → k ≤ 99 → length (flatten (ended_by k)) ≤ 11
 ended_short k h = rw (ended_parts k) (simp length-append (omega (arith, short_count 1 k newline (omega arith))))
 
 row_short : (r : Row) → length (line_of r) ≤ longest_line → (t : Bool) → length (cond t (line_of r) []) ≤ longest_line

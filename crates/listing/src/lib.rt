@@ -25,7 +25,8 @@ use words::FromEnd;
 // How long the longest line is, `longest_line`, newline included.
 const LONGEST_LINE: usize = 95;
 
-const HEADER: &[u8; 62] = b"interval,direction,applies,amount,previous,current,next,clamp\n";
+// The first line. For `line_by_line` too, as are the functions below that are `pub` and ask for room.
+pub const HEADER: &[u8; 62] = b"interval,direction,applies,amount,previous,current,next,clamp\n";
 
 // How long the longest listing is, `longest_listing`: a header and 288 intervals of eight lines. A buffer needs no more.
 pub const ROOM: usize = HEADER.len() + MOST_RECORDS * (8 * LONGEST_LINE);
@@ -86,7 +87,7 @@ fn line_before(row: &Row, out: &mut FromEnd)
 
 // A row as a line: it is put together beside the buffer, since its length is known only then.
 #[tactic(auto, using(crate::proofs::LineLength::line_short, words::proofs::Parts::before))]
-fn line(row: &Row, out: &mut [u8]) -> usize
+pub fn line(row: &Row, out: &mut [u8]) -> usize
     requires { RowBounds row.now × (length (line_of row.now) ≤ length out.old) }
     ensures { Puts (line_of row.now) out.old result out.new }
 {
@@ -98,7 +99,7 @@ fn line(row: &Row, out: &mut [u8]) -> usize
 
 // Is the row printed?
 #[tactic(auto, unfolding(crate::specs::Line::listed_of))]
-fn listed(row: &Row) -> bool
+pub fn listed(row: &Row) -> bool
     ensures { result ≡ listed_of row.now }
 {
     row.amount.is_negative() || row.next.is_negative() || row.applies
@@ -126,7 +127,7 @@ fn rows(t: &Tracker, out: &mut [u8]) -> usize
 
 // A refusal's line.
 #[tactic(auto, using(crate::proofs::ListingLength::ended_parts, crate::proofs::ListingLength::refusal_short, words::proofs::Parts::chained, words::proofs::Parts::before))]
-fn refused(why: Refusal, out: &mut [u8]) -> usize
+pub fn refused(why: Refusal, out: &mut [u8]) -> usize
     requires { length (flatten (ended_by (number why))) ≤ length out.old }
     ensures { Puts (flatten (ended_by (number why))) out.old result out.new }
 {

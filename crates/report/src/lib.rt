@@ -12,7 +12,8 @@ ghost use Rattle.report.specs.Settings.{edges_in, direction_settings_in, setting
 
 use readers::ControlView;
 use rules::{
-    Answer, DirectionSettings, MOST_RECORDS, Notice, Period, RECORD, Row, Settings, Tracker,
+    Answer, DirectionSettings, MOST_RECORDS, Notice, Period, RECORD, Refusal, Row, Settings,
+    Tracker,
 };
 use std::alloc::Alloc;
 use std::array::from_fn;
@@ -134,6 +135,11 @@ impl Reader for Trader {
     fn print(&self, rt: &impl Print, row: Row) -> io::Result<()> {
         print_for_trader(rt, row)
     }
+}
+
+// The number of a refusal, 0 if accepted.
+pub fn number_of<T: Drop>(answer: Result<T, Refusal>) -> u64 {
+    answer.err().map_or(0, |why| u64::from(u8::from(why)))
 }
 
 // A refusal, or its number.

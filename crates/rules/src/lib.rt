@@ -191,7 +191,7 @@ pub struct Row {
     pub leftover: Grains,
 }
 
-// Why a call is refused, under document 01's numbers; 19 and 20 are N2's, 22 and 23 are N11's, and 18 and 21 are of no call here.
+// Why a call is refused, under document 01's numbers; 19 and 20 are N2's, 21 is N3's, 22 and 23 are N11's, and 18 is of no call here.
 #[derive(Clone, Copy, PartialEq, Eq)]
 pub enum Refusal {
     // interval
@@ -219,6 +219,8 @@ pub enum Refusal {
     // opening with settings (N2)
     OutsideSpan = 19,
     NotRising = 20,
+    // the listing line by line (N3)
+    SmallScratch = 21,
     // keep and return (N11)
     NoPlace = 22,
     NothingKept = 23,

@@ -1,0 +1,2 @@
+-- What C is answered.
+pub mod InNumbers
