@@ -1,14 +1,16 @@
-// Callers of the tracker, of a keeper (N11), of the two readers and of a call for a line (N3), as another crate would write them. What they say of
-// their own lists of calls, demand 3 and N8's law, of the views that they were given (N6), and of a listing that they print, they have from what the
-// calls promise, and from nothing else.
+// Callers of the tracker, of a keeper (N11), of the two readers, of a call for a line (N3) and of a comparison (N12), as another crate would write
+// them. What they say of their own lists of calls, demand 3 and N8's law, of the views that they were given (N6), of a listing that they print, and of
+// a journal beside published entries, they have from what the calls promise, and from nothing else.
 
 #![tactic(auto)]
 
-ghost use Rattle.std.specs.Prelude.{OnOk};
+ghost use Rattle.std.specs.Prelude.{◌≡◌, true, length, OnOk};
 ghost use Rattle.std.specs.Io.KnownBytes.{Appends};
 ghost use Rattle.tracker.specs.Promise.{opening};
 ghost use Rattle.journal_rules.specs.Journal.{longest_journal};
 ghost use Rattle.listing.specs.Listing.{listing_in};
+ghost use Rattle.comparison.specs.Entries.{entries_in};
+ghost use Rattle.beside.specs.Beside.{our_rows};
 ghost use Rattle.example.specs.Own.{Own, Tried, Mixed, OnLent, TakenBack, Complete, Read, Told};
 
 use line_by_line::LEAST_SCRATCH;
@@ -147,5 +149,15 @@ pub fn print_line_by_line<W: Write>(journal: &[u8], sink: &mut W) -> io::Result<
         }
         sink.write_all(&scratch[..n])?;
         given += 1;
+    }
+}
+
+// Do a journal's rows and the published entries differ nowhere (N12)? Then there are as many entries as rows.
+pub fn as_many(journal: &[u8], entries: &[u8]) -> bool
+    ensures { result ≡ true → length (entries_in entries.now) ≡ length (our_rows journal.now) }
+{
+    match beside::compare(journal, entries) {
+        Ok(figures) => figures.lowest.is_none(),
+        Err(_) => false,
     }
 }

@@ -163,8 +163,8 @@ pub fn read(journal: &[u8]) -> Result<Contents, Refusal>
     Ok(contents)
 }
 
-// The records that a read of the journal counted; none where it was refused. For `listing` and `line_by_line`, which have read the journal;
-// outside, `records` is offered.
+// The records that a read of the journal counted; none where it was refused. For `listing`, `line_by_line` and `beside`, which have read the
+// journal; outside, `records` is offered.
 pub fn counted_records(journal: &[u8], found: Result<Contents, Refusal>) -> &[u8]
     ensures { result.now ≡ counted_records found journal.now }
 {
@@ -194,7 +194,7 @@ fn issued_again(bytes: &RecordBytes, others: &[RecordBytes]) -> bool
 }
 
 // Of records those that the next one does not supersede, one by one: the survivors, where the records are in order. A clause sees the list of those
-// that are left. For `listing` and `line_by_line` too, which have read the journal.
+// that are left. For `listing`, `line_by_line` and `beside` too, which have read the journal.
 #[derive(Drop)]
 pub struct Surviving<'a> {
     others: &'a [RecordBytes],

@@ -4,5 +4,7 @@ pub mod Order
 pub mod Survivors
 pub mod OneByOne
 pub mod Accept
+pub mod EightDirections
 pub mod RoundTrip
+pub mod RunInTurn
 pub mod Promise

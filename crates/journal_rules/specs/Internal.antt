@@ -1,7 +1,7 @@
--- A trailer that points at records inside the journal, the records by what a read gave, a record that is issued again (N7), and at most 288
--- whole records. No promise cites this.
+-- A trailer that points at records inside the journal, the records by what a read gave, a record that is issued again (N7), at most 288 whole
+-- records, and a tracker's rows. No promise cites this.
 use Rattle.std.specs.Prelude.{◌≡◌, Bool, false, not, cond, List, [], ◌∷◌, ◌++◌, ℕ, Result, Ok, Err, ◌+◌, ◌*◌, ◌-◌, ◌%◌, ◌≤◌, eqb, ltb, length, take, drop}
-use Rattle.tracker.specs.Promise.{record_number}
+use Rattle.tracker.specs.Promise.{Tracker, Row, record_number, of_directions, row_answer}
 use Rattle.journal_rules.specs.declared.Contents.{Contents}
 use Rattle.journal_rules.specs.Journal.{Refusal, record_length, most_records, trailer_length, record_count, count, distance}
 
@@ -39,3 +39,7 @@ last_of_each (b ∷ bs) = cond (not (issued_again b bs)) (b ∷ []) [] ++ last_o
 pub record Whole (r : List ℕ) : Type 0 where
   pub whole : length r % record_length ≡ 0
   pub few : record_count r ≤ most_records
+
+-- the rows that a tracker's row calls return, by direction
+abbrev pub rows_shown : Tracker → List Row
+rows_shown t = of_directions (λ d. (row_answer t d).row)

@@ -11,8 +11,9 @@ use Rattle.journal_rules.specs.declared.Contents.{Contents}
 use Rattle.journal_rules.specs.Journal.{read_of, records_of}
 use Rattle.journal_rules.specs.Survivors.{survivors}
 use Rattle.listing.specs.Line.{line_of, listed_of}
-use Rattle.listing.specs.Listing.{header, if_listed, eight_rows, call_lines, refused_line, ended_by, run_lines, opened_at, opening_number, opened_lines, record_lines, read_lines, body_lines, input_lines, lines_of, longest_line, longest_listing}
-use Rattle.listing.proofs.EightDirections.{worked_bounded}
+use Rattle.listing.specs.Listing.{header, if_listed, eight_rows, call_lines, refused_line, ended_by, run_lines, opening_number, opened_lines, record_lines, read_lines, body_lines, input_lines, lines_of, longest_line, longest_listing}
+use Rattle.journal_rules.specs.Run.{opened_at}
+use Rattle.journal_rules.proofs.EightDirections.{worked_bounded}
 use Rattle.listing.proofs.LineLength.{line_parts, line_short}
 use Rattle.listing.proofs.ListingLength.{ended_parts, ended_short, listing_short}
 use Rattle.listing.proofs.RefusalNumbers.{two_digits, met_two_digits}

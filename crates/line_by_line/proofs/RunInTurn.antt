@@ -5,8 +5,9 @@ use mathlib.Core.List.{map, flatten}
 use Rattle.tracker.specs.Promise.{Came, Tracker, Row, Refusal, number, Answer, OpenPromise, IntervalPromise, IntervalAfter, Call, Interval, run_calls}
 use Rattle.tracker.proofs.Promise.{came_ran}
 use Rattle.journal_rules.specs.Survivors.{survivors}
-use Rattle.listing.specs.Listing.{if_listed, ended_by, run_lines, opened_at, opened_lines}
-use Rattle.listing.proofs.EightDirections.{shown_worked}
+use Rattle.listing.specs.Listing.{if_listed, ended_by, run_lines, opened_lines}
+use Rattle.journal_rules.specs.Run.{opened_at}
+use Rattle.journal_rules.proofs.EightDirections.{shown_worked}
 use Rattle.listing.proofs.LinesByCase.{go_on, go_off, opened}
 use Rattle.line_by_line.specs.Internal.{lines_shown}
 use Rattle.line_by_line.proofs.Passed.{Passed, none_passed, found_in, found_here, passed_on, all_passed}

@@ -6,8 +6,8 @@ use mathlib.Core.List.{map, flatten}
 use Rattle.tracker.specs.Promise.{Tracker, RowAnswer, RowPromise, no_row}
 use Rattle.listing.specs.Line.{line_of, listed_of}
 use Rattle.listing.specs.Listing.{if_listed}
-use Rattle.listing.specs.Internal.{rows_shown}
-use Rattle.listing.proofs.EightDirections.{shown_at}
+use Rattle.journal_rules.specs.Internal.{rows_shown}
+use Rattle.journal_rules.proofs.EightDirections.{shown_at}
 
 -- those of the rows from direction d on
 abbrev pub shown_from : Tracker → ℕ → List (List ℕ)

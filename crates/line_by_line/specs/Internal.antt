@@ -4,7 +4,7 @@ use mathlib.Core.List.{List, [], map, flatten}
 use Rattle.words.specs.Buffer.{Puts}
 use Rattle.tracker.specs.Promise.{Tracker}
 use Rattle.listing.specs.Listing.{if_listed}
-use Rattle.listing.specs.Internal.{rows_shown}
+use Rattle.journal_rules.specs.Internal.{rows_shown}
 use Rattle.line_by_line.specs.declared.Search.{Search}
 use Rattle.line_by_line.specs.declared.Search.TheVariants.{Beyond, Found}
 

@@ -95,7 +95,7 @@ fn opened_line(first: u32, records: &[u8], k: usize, out: &mut [u8]) -> usize
 }
 
 // Line k of what a journal gives.
-#[tactic(auto, using(listing::proofs::LinesByCase::read_some, listing::proofs::LinesByCase::read_ordered, listing::proofs::LinesByCase::read_none))]
+#[tactic(auto, using(listing::proofs::LinesByCase::read_some, journal_rules::proofs::RunInTurn::read_order, listing::proofs::LinesByCase::read_none))]
 fn body_line(journal: &[u8], k: usize, out: &mut [u8]) -> usize
     requires { longest_line ≤ length out.old }
     ensures { Puts (get_or (body_lines journal.now) k []) out.old result out.new }

@@ -13,7 +13,7 @@ use Rattle.text.specs.Ascii.{ascii}
 use Rattle.text.specs.Text.{number_cell, signed_cell}
 use Rattle.text.proofs.Decimal.{short_count, short_cell, cell_plain}
 use Rattle.tracker.specs.Promise.{Row, RowBounds}
-use Rattle.listing.proofs.EightDirections.{each_direction}
+use Rattle.journal_rules.proofs.EightDirections.{each_direction}
 use Rattle.listing.specs.Line.{names, comma, newline, mark, name_of, amounts_of, line_of}
 use Rattle.listing.specs.Listing.{longest_line}
 

@@ -9,15 +9,17 @@ use native.Mathlib.Omega.{arith}
 use lib.ListN.{length}
 use Rattle.std.specs.Prelude.{Result, Ok, Err}
 use Rattle.journal_rules.specs.declared.Contents.{Contents}
-use Rattle.journal_rules.specs.Journal.{record_count, in_order, read_of, records_of}
+use Rattle.journal_rules.specs.Journal.{in_order, read_of, records_of}
 use Rattle.journal_rules.specs.Survivors.{survivors}
 use Rattle.journal_rules.specs.Internal.{last_records, counted_records}
-use Rattle.journal_rules.proofs.Accept.{counted_records_lem, records_ordered}
-use Rattle.journal_rules.proofs.Survivors as S
+use Rattle.journal_rules.proofs.Accept.{counted_records_lem}
+use Rattle.journal_rules.proofs.RunInTurn.{none_survive}
+use Rattle.journal_rules.proofs.Survivors.{some_survive}
 use Rattle.tracker.specs.Promise.{Refusal, number, Row, Answer, Opening, OpenPromise, IntervalAfter, number_of, worked_from, Call, Interval}
 use Rattle.listing.specs.Line.{line_of, listed_of}
 use Rattle.listing.specs.Internal.{row_text}
-use Rattle.listing.specs.Listing.{if_listed, eight_rows, call_lines, ended_by, run_lines, opened_at, opened_lines, record_lines, body_lines}
+use Rattle.listing.specs.Listing.{if_listed, eight_rows, call_lines, ended_by, run_lines, opened_lines, record_lines, body_lines}
+use Rattle.journal_rules.specs.Run.{opened_at}
 
 -- the lines of the printed ones of rows, end to end, are what the code puts for each
 pub printed : (rows : List Row) → flatten (flatten (map if_listed rows)) ≡ flatten (map row_text rows)
@@ -60,7 +62,7 @@ module _ (first : ℕ) (bs : List (List ℕ)) {a : Answer} (p : OpenPromise (ope
 
 pub no_records : (first : ℕ) (r : List ℕ) → length r < 168 → record_lines first (survivors r) ≡ []
 unfolding record_lines
-no_records first r l = let none : record_count r ≤ 0 = omega arith in rw (S.rest_all r, S.rest_none r 0 none)
+no_records first r l = rw (none_survive r l)
 
 pub no_text : (first : ℕ) (r : List ℕ) → length r < 168 → flatten (record_lines first (survivors r)) ≡ []
 unfolding flatten
@@ -68,7 +70,7 @@ no_text first r l = rw (no_records first r l)
 
 pub some_records : (first : ℕ) (r : List ℕ) → in_order r ≡ true → 168 ≤ length r → record_lines first (survivors r) ≡ opened_lines first (survivors r)
 unfolding record_lines
-some_records first r order l = go (survivors r) (S.some_survive r order (omega arith))
+some_records first r order l = go (survivors r) (some_survive r order (omega arith))
   where
     go : (bs : List (List ℕ)) → 0 < length bs → record_lines first bs ≡ opened_lines first bs
     go [] h = absurd (omega arith)
@@ -81,9 +83,6 @@ module _ (s : List ℕ) where
   read_some held e =
       let records : records_of s ≡ last_records held.count s = sym (counted_records_lem s) ∙ ap (λ (found : Result Contents Refusal). counted_records found s) (sym e) in
       rw (← e, records)
-
-  pub read_ordered : (held : Contents) → Ok held ≡ read_of s → in_order (last_records held.count s) ≡ true
-  read_ordered held e = ap (λ (found : Result Contents Refusal). in_order (counted_records found s)) e ∙ rw (counted_records_lem s) (records_ordered s)
 
   pub read_none : (why : Refusal) → Err why ≡ read_of s → body_lines s ≡ ended_by (number why)
   unfolding body_lines

@@ -20,10 +20,11 @@ use Rattle.journal_rules.proofs.Survivors.{no_more}
 use Rattle.tracker.specs.Promise.{Refusal, Row, RowBounds, no_row, Opening, number, number_met, open_conditions, interval_conditions, awaited_from, of_directions, worked_from, Call, Interval}
 use Rattle.listing.specs.Line.{newline, line_of, listed_of}
 use Rattle.listing.specs.Internal.{row_text}
-use Rattle.listing.specs.Listing.{header, eight_rows, call_lines, refused_line, ended_by, run_lines, opened_at, opening_number, opened_lines, record_lines, read_lines, body_lines, input_lines, lines_of, listing_of, longest_line, longest_listing}
+use Rattle.listing.specs.Listing.{header, eight_rows, call_lines, refused_line, ended_by, run_lines, opening_number, opened_lines, record_lines, read_lines, body_lines, input_lines, lines_of, listing_of, longest_line, longest_listing}
+use Rattle.journal_rules.specs.Run.{opened_at}
 use Rattle.listing.proofs.LinesByCase.{printed}
 use Rattle.listing.proofs.LineLength.{line_short}
-use Rattle.listing.proofs.EightDirections.{worked_bounded}
+use Rattle.journal_rules.proofs.EightDirections.{worked_bounded}
 use Rattle.listing.proofs.RefusalNumbers.{two_digits, met_two_digits}
 
 -- all records of a journal, eight lines for each

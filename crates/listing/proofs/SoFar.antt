@@ -9,8 +9,9 @@ use Rattle.tracker.specs.Promise.{Came, Tracker, Row, Refusal, number, Answer, O
 use Rattle.tracker.proofs.Promise.{came_ran}
 use Rattle.journal_rules.specs.Survivors.{survivors}
 use Rattle.listing.specs.Internal.{row_text, rows_text}
-use Rattle.listing.specs.Listing.{eight_rows, ended_by, run_lines, opened_at, opened_lines}
-use Rattle.listing.proofs.EightDirections.{shown_worked}
+use Rattle.listing.specs.Listing.{eight_rows, ended_by, run_lines, opened_lines}
+use Rattle.journal_rules.specs.Run.{opened_at}
+use Rattle.journal_rules.proofs.EightDirections.{shown_worked}
 use Rattle.listing.proofs.LinesByCase.{printed, go_on, go_off, opened}
 
 -- all lines, where the journal starts at the first n

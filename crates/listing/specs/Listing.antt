@@ -1,14 +1,15 @@
 -- Document 01, `clampday`: the listing of its input, line by line, from the opening and the surviving records (N7) alone. Nothing here reads a
 -- tracker.
-use Rattle.std.specs.Prelude.{◌≡◌, Bool, cond, Result, Ok, Err, ℕ, ◌+◌, ◌*◌, ◌≤◌, nat_lt, length, take, replicate}
+use Rattle.std.specs.Prelude.{◌≡◌, Bool, cond, Result, Ok, Err, ℕ, ◌+◌, ◌*◌, ◌≤◌, nat_lt, length, take}
 use mathlib.Core.List.{List, [], ◌∷◌, ◌++◌, map, flatten}
 use Rattle.std.proofs.Math.Option.{Option, none, some}
 use Rattle.text.specs.Ascii.{ascii}
 use Rattle.text.specs.Text.{number_cell}
-use Rattle.tracker.specs.Promise.{Row, Refusal, number, Opening, opening, number_met, open_conditions, interval_conditions, awaited_from, of_directions, worked_from, Call, Interval}
+use Rattle.tracker.specs.Promise.{Row, Refusal, number, Opening, number_met, open_conditions, interval_conditions, awaited_from, of_directions, worked_from, Call, Interval}
 use Rattle.journal_rules.specs.declared.Contents.{Contents}
 use Rattle.journal_rules.specs.Journal.{most_records, read_of, records_of}
 use Rattle.journal_rules.specs.Survivors.{survivors}
+use Rattle.journal_rules.specs.Run.{opened_at}
 use Rattle.listing.specs.Line.{newline, line_of, listed_of}
 
 -- The header always comes first.
@@ -42,10 +43,6 @@ run_lines o passed [] = []
 run_lines o passed (b ∷ bs) =
     let upto = passed ++ (Interval b ∷ []) in
     call_lines (number_met (interval_conditions (awaited_from o passed) b)) (eight_rows (worked_from o upto)) (run_lines o upto bs)
-
--- It opens at the journal's first n with all shares 500, and gives no settings (N2).
-abbrev pub opened_at : ℕ → Opening
-opened_at first = opening first (replicate 6 500)
 
 abbrev pub opening_number : Opening → Option ℕ
 opening_number o = number_met (open_conditions o.first o.shares o.settings)

@@ -31,8 +31,8 @@ pub const HEADER: &[u8; 62] = b"interval,direction,applies,amount,previous,curre
 // How long the longest listing is, `longest_listing`: a header and 288 intervals of eight lines. A buffer needs no more.
 pub const ROOM: usize = HEADER.len() + MOST_RECORDS * (8 * LONGEST_LINE);
 
-// The directions' names, by the number that document 01 gives each.
-const NAMES: [&str; 8] = [
+// The directions' names, by the number that document 01 gives each. For `clampbeside` too.
+pub const NAMES: [&str; 8] = [
     "NSW1_QLD1",
     "QLD1_NSW1",
     "VIC1_NSW1",
@@ -176,7 +176,7 @@ fn opened(first: u32, records: &[u8], out: &mut [u8]) -> usize
 }
 
 // What a journal gives.
-#[tactic(auto, using(crate::proofs::LinesByCase::read_some, crate::proofs::LinesByCase::read_ordered, crate::proofs::LinesByCase::read_none))]
+#[tactic(auto, using(crate::proofs::LinesByCase::read_some, journal_rules::proofs::RunInTurn::read_order, crate::proofs::LinesByCase::read_none))]
 fn body(journal: &[u8], out: &mut [u8]) -> usize
     requires { length (flatten (body_lines journal.now)) ≤ length out.old }
     ensures { Puts (flatten (body_lines journal.now)) out.old result out.new }

@@ -5,7 +5,7 @@ use Rattle.std.specs.Int.Signed.{lt_z}
 use Rattle.units.specs.declared.Cents.{Cents}
 use Rattle.units.specs.declared.Hundredths.{Hundredths}
 use Rattle.rules.specs.declared.Refusal.{Refusal}
-use Rattle.rules.specs.declared.Refusal.TheVariants.{NotARecord, NumberTooHigh, NotAwaited, BadFlags, BadStatus, BadPrice, BadFlow, BadPreDispatch, BadFirst, BadShare, BadLength, BadTrailer, BadNumbers, NotInOrder, BadRecords, NoRoom, NoDirection, OutsideSpan, NotRising, SmallScratch, NoPlace, NothingKept}
+use Rattle.rules.specs.declared.Refusal.TheVariants.{NotARecord, NumberTooHigh, NotAwaited, BadFlags, BadStatus, BadPrice, BadFlow, BadPreDispatch, BadFirst, BadShare, BadLength, BadTrailer, BadNumbers, NotInOrder, BadRecords, NoRoom, NoDirection, OutsideSpan, NotRising, SmallScratch, NoPlace, NothingKept, BadEntries, EntriesNotRising}
 use Rattle.rules.specs.declared.DirectionSettings.{DirectionSettings}
 use Rattle.rules.specs.declared.Settings.{Settings}
 use Rattle.rules.specs.Market.{price_ok, flow_ok, loss_ok}
@@ -13,7 +13,7 @@ use Rattle.rules.specs.Settings.{threshold_ok, edge_at, edge_ok, step_for, step_
 use Rattle.rules.specs.Interval.{place}
 use Rattle.rules.specs.Record.{u32_at, record_number, flags, present, status_byte, zero_bytes, price, metered, target, losses, pre_dispatch_price, pre_dispatch_flow, pre_dispatch_losses, record_length, record_count}
 
--- The number of a refusal: document 01's, N2's 19 and 20, N3's 21, and N11's 22 and 23. There is no 18.
+-- The number of a refusal: document 01's, N2's 19 and 20, N3's 21, N11's 22 and 23, and N12's 24 and 25. There is no 18.
 abbrev pub number : Refusal → ℕ
 number NotARecord = 1
 number NumberTooHigh = 2
@@ -37,6 +37,8 @@ number NotRising = 20
 number SmallScratch = 21
 number NoPlace = 22
 number NothingKept = 23
+number BadEntries = 24
+number EntriesNotRising = 25
 
 -- How a call ends: accepted, or refused.
 abbrev pub Outcome : Type 0

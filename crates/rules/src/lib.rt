@@ -191,7 +191,8 @@ pub struct Row {
     pub leftover: Grains,
 }
 
-// Why a call is refused, under document 01's numbers; 19 and 20 are N2's, 21 is N3's, 22 and 23 are N11's, and 18 is of no call here.
+// Why a call is refused, under document 01's numbers; 19 and 20 are N2's, 21 is N3's, 22 and 23 are N11's,
+// 24 and 25 are N12's, and 18 is of no call here.
 #[derive(Clone, Copy, PartialEq, Eq)]
 pub enum Refusal {
     // interval
@@ -224,6 +225,9 @@ pub enum Refusal {
     // keep and return (N11)
     NoPlace = 22,
     NothingKept = 23,
+    // our rows beside the published entries (N12)
+    BadEntries = 24,
+    EntriesNotRising = 25,
 }
 
 impl Refusal {

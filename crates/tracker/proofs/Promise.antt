@@ -88,6 +88,11 @@ open_promise o e =
       claim = rules.claim (open_of o).tracker o [] refl;
     })
 
+-- how an opening ends, by its conditions
+pub open_outcome_lem : {o : Opening} {r : Answer} → OpenPromise o r → r.outcome ≡ judged (open_conditions o.first o.shares o.settings)
+unfolding open_of open_outcome
+open_outcome_lem p = ap (λ (r : Answer). r.outcome) p.is
+
 module _ (t : Tracker) (o : Opening) (calls : List Call) (q : t ≡ run_calls o calls) where
   run_longer : (call : Call) → after_call t call ≡ run_calls o (calls ++ (call ∷ []))
   run_longer call = ap (λ (x : Tracker). after_call x call) q ∙ rules.run_call_on o calls call

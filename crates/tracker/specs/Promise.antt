@@ -22,7 +22,7 @@ pub use Rattle.rules.specs.declared.Notice.{Notice}
 pub use Rattle.rules.specs.declared.Notice.TheVariants.{Start, End}
 pub use Rattle.rules.specs.Interval.{notice_number}
 pub use Rattle.rules.specs.declared.Refusal.{Refusal}
-pub use Rattle.rules.specs.declared.Refusal.TheVariants.{NotARecord, NumberTooHigh, NotAwaited, BadFlags, BadStatus, BadPrice, BadFlow, BadPreDispatch, BadFirst, BadShare, BadLength, BadTrailer, BadNumbers, NotInOrder, BadRecords, NoRoom, NoDirection, OutsideSpan, NotRising, SmallScratch, NoPlace, NothingKept}
+pub use Rattle.rules.specs.declared.Refusal.TheVariants.{NotARecord, NumberTooHigh, NotAwaited, BadFlags, BadStatus, BadPrice, BadFlow, BadPreDispatch, BadFirst, BadShare, BadLength, BadTrailer, BadNumbers, NotInOrder, BadRecords, NoRoom, NoDirection, OutsideSpan, NotRising, SmallScratch, NoPlace, NothingKept, BadEntries, EntriesNotRising}
 pub use Rattle.rules.specs.declared.Answer.{Answer}
 pub use Rattle.rules.specs.declared.RowAnswer.{RowAnswer}
 -- how bytes make a number, the number of a record, its issue (N7), how conditions in their order make an outcome, and a test of each number below n

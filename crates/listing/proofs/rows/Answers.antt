@@ -2,8 +2,9 @@
 use Rattle.std.proofs.Common.{arith}
 use Rattle.words.proofs.Parts.{no_part, part_room, part_put}
 use Rattle.tracker.specs.Promise.{no_row}
-use Rattle.listing.specs.Internal.{row_text, rows_shown}
-use Rattle.listing.proofs.EightDirections.{shown_at}
+use Rattle.listing.specs.Internal.{row_text}
+use Rattle.journal_rules.specs.Internal.{rows_shown}
+use Rattle.journal_rules.proofs.EightDirections.{shown_at}
 use Rattle.listing.proofs.rows.Goals as goal
 
 pub loop-d-init : goal.loop-d-init

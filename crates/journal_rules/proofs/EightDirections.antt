@@ -7,7 +7,7 @@ use native.Mathlib.Omega.{arith}
 use lib.ListN.{get_or}
 use Rattle.tracker.specs.Promise.{Tracker, RowAnswer, RowPromise, RowBounds, no_row, Opening, Came, Call, run_calls, row_answer, of_directions, worked_from}
 use Rattle.tracker.proofs.Promise.{at_direction, row_promise, worked_bounds}
-use Rattle.listing.specs.Internal.{rows_shown}
+use Rattle.journal_rules.specs.Internal.{rows_shown}
 
 -- what is the same for the eight, one after the other, is the same at each
 pub each_direction : {A : Type 0} (f g : ℕ → A) (default : A) → of_directions f ≡ of_directions g → (d : ℕ) → d < 8 → f d ≡ g d
