@@ -194,9 +194,13 @@ fn print_place(rt: &impl Print, journal: &[u8]) -> io::Result<()> {
 fn print_read(rt: &impl Print, journal: &[u8]) -> io::Result<()> {
     let found = journal::read(journal);
     print_number(rt, number_of(found), b' ')?;
-    let numbers = found.map_or([0; 3], |held| [held.count, held.first, held.last]);
-    for n in numbers {
-        print_number(rt, u64::from(n), b' ')?;
+    match found {
+        Ok(held) => {
+            for n in [held.count, held.first, held.last] {
+                print_number(rt, u64::from(n), b' ')?;
+            }
+        }
+        Err(_) => rt.write_all(b"0 0 0 ")?,
     }
     print_place(rt, journal)
 }
@@ -217,10 +221,11 @@ fn print_with_buffer<F: FnOnce(&mut [u8]) -> Result<usize, Refusal>>(
 ) -> io::Result<()>
     requires { F.IsAlwaysCallable call }
 {
-    let mut buffer = [0xA5; LONGEST];
-    let Some(out) = buffer.get_mut(..room) else {
+    if LONGEST < room {
         return no_call(rt);
-    };
+    }
+    let mut buffer = [0xA5; LONGEST];
+    let out = &mut buffer[..room];
     let given = call(out);
     print_number(rt, number_of(given), b' ')?;
     print_number(rt, given.unwrap_or(0) as u64, b' ')?;

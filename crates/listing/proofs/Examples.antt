@@ -6,7 +6,6 @@ use mathlib.Core.List.{flatten}
 use Prim.Native.Nat.{ℕ}
 use lib.IntN.{ℤ, pos}
 use lib.ListN.{length}
-use Rattle.std.specs.Prelude.{None as No_notice}
 use Rattle.text.specs.Ascii.{ascii}
 use Rattle.text.specs.Text.{number_cell, signed_cell, signed_of, dec_of, decimal}
 use Rattle.tracker.specs.Promise.{minus, cents, hundredths, grains, Grains, Row, None}
@@ -30,7 +29,7 @@ outside n z previous next = record {
   blocked = false;
   flag = true;
   clamp = hundredths (pos 2000000);
-  notice = No_notice;
+  notice = 0;
   leftover = grains (pos 0);
 }
 

@@ -19,7 +19,7 @@ ghost use Rattle.listing.specs.Listing.{ended_by, opened_lines, record_lines, bo
 use rules::{MOST_RECORDS, RECORD, Refusal, Row, Tracker};
 use std::io;
 use std::io::{Read, Write};
-use units::Quantity;
+use units::{Cents, Hundredths, Quantity};
 use words::FromEnd;
 
 // How long the longest line is, `longest_line`, newline included.
@@ -60,16 +60,16 @@ fn put_name(d: usize, out: &mut FromEnd)
     out.put_bytes(name(d).as_bytes());
 }
 
-// amount,previous,current,next
+// amount,previous,current,next. Each call of `text::quantity` names the type, so that a flow passed for an amount does not compile.
 #[tactic(auto, using(crate::proofs::LineLength::amounts_parts, words::proofs::Parts::before))]
 fn amounts(row: &Row, out: &mut FromEnd)
     requires { length (amounts_of row.now) ≤ length out.old.free }
     ensures { out.new ≡ put_before (amounts_of row.now) out.old }
 {
-    text::quantity(row.next, b',', out);
-    text::quantity(row.current, b',', out);
-    text::quantity(row.previous, b',', out);
-    text::quantity(row.amount, b',', out);
+    text::quantity::<Cents>(row.next, b',', out);
+    text::quantity::<Cents>(row.current, b',', out);
+    text::quantity::<Cents>(row.previous, b',', out);
+    text::quantity::<Cents>(row.amount, b',', out);
 }
 
 // A row as a line, put together from its end, as numbers are.
@@ -78,7 +78,7 @@ fn line_before(row: &Row, out: &mut FromEnd)
     requires { (row.now.direction < 8) × (length (line_of row.now) ≤ length out.old.free) }
     ensures { out.new ≡ put_before (line_of row.now) out.old }
 {
-    text::quantity(row.clamp, b'\n', out);
+    text::quantity::<Hundredths>(row.clamp, b'\n', out);
     amounts(row, out);
     text::number(u64::from(row.applies), b',', out);
     put_name(row.direction, out);

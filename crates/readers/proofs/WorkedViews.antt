@@ -3,8 +3,8 @@
 use mathlib.Core.Bool.{Bool, true, false}
 use mathlib.Core.Path.{◌≡◌, refl}
 use lib.IntN.{ℤ, pos}
-use Rattle.std.specs.Prelude.{Option, Some, None}
-use Rattle.tracker.specs.Promise.{Notice, End, minus, cents, hundredths, grains, Cents, Hundredths, Grains, Row, Period, Held, Counts, no_row}
+use Rattle.std.specs.Prelude.{ℕ, Some, None}
+use Rattle.tracker.specs.Promise.{minus, cents, hundredths, grains, Cents, Hundredths, Grains, Row, Period, Held, Counts, no_row}
 use Rattle.readers.specs.declared.TraderView.{TraderView}
 use Rattle.readers.specs.Views.{trader_view, control_view, row_shown}
 
@@ -25,7 +25,7 @@ clamped amount = record {
   blocked = true;
   flag = false;
   clamp = hundredths (pos 392488);
-  notice = Some End;
+  notice = 3;
   leftover = grains (minus 1200000);
 }
 
@@ -63,7 +63,7 @@ pub for_the_control_room :
     × (view.blocked ≡ true)
     × (view.flag ≡ false)
     × (view.clamp ≡ hundredths (pos 392488))
-    × (view.notice ≡ Some End)
+    × (view.notice ≡ 3)
     × (view.leftover ≡ grains (minus 1200000))
 unfolding control_view
 for_the_control_room = (refl, refl, refl, refl, refl, refl, refl, refl, refl, refl, refl, refl, refl, refl, refl, refl)
@@ -84,7 +84,7 @@ unfolding trader_view
 nothing_beside_17 = refl
 
 -- A row r with other values where the trader does not look.
-abbrev elsewhere : Row → Cents → Cents → Period → Counts → Bool → Bool → Hundredths → Option Notice → Grains → Row
+abbrev elsewhere : Row → Cents → Cents → Period → Counts → Bool → Bool → Hundredths → ℕ → Grains → Row
 elsewhere r residue net period counts blocked flag clamp notice leftover = record {
   n = r.n;
   direction = r.direction;
@@ -105,7 +105,7 @@ elsewhere r residue net period counts blocked flag clamp notice leftover = recor
 }
 
 -- Whatever clamp, counts and period a row holds, and the other six, the trader's view is the same.
-pub others_unseen : (r : Row) (residue net : Cents) (period : Period) (counts : Counts) (blocked flag : Bool) (clamp : Hundredths) (notice : Option Notice) (leftover : Grains)
+pub others_unseen : (r : Row) (residue net : Cents) (period : Period) (counts : Counts) (blocked flag : Bool) (clamp : Hundredths) (notice : ℕ) (leftover : Grains)
     → trader_view (elsewhere r residue net period counts blocked flag clamp notice leftover) ≡ trader_view r
 unfolding trader_view
 others_unseen r residue net period counts blocked flag clamp notice leftover = refl

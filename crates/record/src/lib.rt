@@ -5,7 +5,7 @@
 ghost use Rattle.std.specs.Prelude.{◌≡◌, ◌+◌, ◌*◌, ◌<◌, ◌≤◌, length, Ok};
 ghost use Rattle.std.specs.Result.{result_and};
 ghost use Rattle.units.specs.Units.{hundredths};
-ghost use Rattle.rules.specs.Record.{record_number, i32_at, bit, present, status, blocked, zero_bytes, target, line_at, pre_dispatch_line_at, prices, lines, pre_dispatch_prices, pre_dispatch_lines};
+ghost use Rattle.rules.specs.Record.{record_number, i32_at, bit, present, status_number, status, blocked, zero_bytes, target, line_at, pre_dispatch_line_at, prices, lines, pre_dispatch_prices, pre_dispatch_lines};
 ghost use Rattle.rules.specs.Refusal.{each, status_ok, bad_flags, bad_status, line_ok, bad_flow, pre_dispatch_zero, pre_dispatch_line_ok, pre_dispatch_inside, bad_pre_dispatch, interval_outcome};
 ghost use Rattle.words.specs.Internal.{IsI32};
 ghost use Rattle.record.specs.Internal.{IsHundredths, header, pre_dispatch_misplaced, price_from, region_ok};
@@ -188,13 +188,20 @@ impl Record<'_> {
         }
     }
 
-    // A direction's status: its byte without the blocked mark. Here and below d is the number that document 01 gives a direction, 0 to 7: its byte
-    // stands by it.
+    // A direction's status by number: its byte without the blocked mark. Here and below d is the number that document 01 gives a direction, 0 to 7:
+    // its byte stands by it.
+    pub fn status_number(&self, d: usize) -> u8
+        requires { d < 8 }
+        ensures { result ≡ status_number self.now d }
+    {
+        self.bytes[STATUS + d] & 3
+    }
+
     pub fn status(&self, d: usize) -> Status
         requires { d < 8 }
         ensures { result ≡ status self.now d }
     {
-        match self.bytes[STATUS + d] & 3 {
+        match self.status_number(d) {
             0 => Status::Unbound,
             2 => Status::Violated,
             // 1; and 3, of the bytes 3 and 7, which `status_ok` refuses: the specs give it alike.

@@ -4,22 +4,23 @@
 #![tactic(auto)]
 
 ghost use Rattle.std.specs.Prelude.{◌≡◌, ◌*◌, ◌<◌, ◌≤◌, nat_abs, length, Ok, IfOk};
-ghost use Rattle.tracker.specs.Promise.{Answer, Row, Came, RowBounds, highest_sum, notice_number};
+ghost use Rattle.tracker.specs.Promise.{Answer, Row, Came, RowBounds, WithinHalfCent, highest_sum};
 ghost use Rattle.words.specs.Internal.{IsI32};
+ghost use Rattle.readers.specs.Views.{row_shown};
 ghost use Rattle.journal_rules.specs.declared.Contents.{Contents};
 ghost use Rattle.journal_rules.specs.Journal.{read_of};
 ghost use Rattle.report.specs.Settings.{edges_in, direction_settings_in, settings_in};
 
+use journal_rules::Contents;
 use readers::ControlView;
 use rules::{
-    Answer, DirectionSettings, MOST_RECORDS, Notice, Period, RECORD, Refusal, Row, Settings,
-    Tracker,
+    Answer, DirectionSettings, MOST_RECORDS, Period, RECORD, Refusal, Row, Settings, Tracker,
 };
 use std::alloc::Alloc;
 use std::array::from_fn;
 use std::rt::{Env, Files};
 use std::{env, fs, io};
-use units::{Cents, Hundredths, Quantity};
+use units::{Cents, Grains, Hundredths, Quantity};
 use words::FromEnd;
 
 // No number that is printed is longer, with the byte that ends it.
@@ -48,6 +49,27 @@ fn print_quantity<Q: Quantity>(rt: &impl Print, z: Q, end: u8) -> io::Result<()>
     rt.write_all(cell.as_slice())
 }
 
+// An amount. This and the two below say the type and the bound of what is printed: a flow passed for an amount does not compile.
+fn print_cents(rt: &impl Print, z: Cents, end: u8) -> io::Result<()>
+    requires { nat_abs z.0 ≤ highest_sum }
+{
+    print_quantity(rt, z, end)
+}
+
+// A clamp.
+fn print_hundredths(rt: &impl Print, z: Hundredths) -> io::Result<()>
+    requires { nat_abs z.0 ≤ 2000000 }
+{
+    print_quantity(rt, z, b',')
+}
+
+// A leftover, which ends its line.
+fn print_grains(rt: &impl Print, z: Grains) -> io::Result<()>
+    requires { WithinHalfCent z }
+{
+    print_quantity(rt, z, b'\n')
+}
+
 // Held or not, first, last, extended; no period is four zeros.
 fn print_period(rt: &impl Print, period: Period) -> io::Result<()> {
     match period {
@@ -65,36 +87,36 @@ fn print_period(rt: &impl Print, period: Period) -> io::Result<()> {
     }
 }
 
-// No notice is 0.
-fn notice_number(notice: Option<Notice>) -> u8
-    ensures { result ≡ notice_number notice }
+// Every field of a control view, in one line. What a row call promises of its row, `RowBounds`, is asked for here and below, since a `Row` is document
+// 01's list of fields, and has no bounds of its own.
+fn print_control(rt: &impl Print, view: ControlView) -> io::Result<()>
+    requires { RowBounds (row_shown view) }
 {
-    notice.map_or(0, u8::from)
-}
-
-// A row in one line, as the control reader shows it: every field. What a row call promises of its row, `RowBounds`, is asked for here and below,
-// since a `Row` is document 01's list of fields, and has no bounds of its own.
-pub fn print_row(rt: &impl Print, row: Row) -> io::Result<()>
-    requires { RowBounds row }
-{
-    let ControlView(shown) = readers::control(row);
+    let ControlView(shown) = view;
     print_number(rt, u64::from(shown.n), b',')?;
     print_number(rt, shown.direction as u64, b',')?;
-    print_quantity(rt, shown.residue, b',')?;
+    print_cents(rt, shown.residue, b',')?;
     print_bool(rt, shown.applies)?;
-    print_quantity(rt, shown.previous, b',')?;
-    print_quantity(rt, shown.current, b',')?;
-    print_quantity(rt, shown.amount, b',')?;
-    print_quantity(rt, shown.next, b',')?;
-    print_quantity(rt, shown.net, b',')?;
+    print_cents(rt, shown.previous, b',')?;
+    print_cents(rt, shown.current, b',')?;
+    print_cents(rt, shown.amount, b',')?;
+    print_cents(rt, shown.next, b',')?;
+    print_cents(rt, shown.net, b',')?;
     print_period(rt, shown.period)?;
     print_number(rt, u64::from(shown.counts.unbound), b',')?;
     print_number(rt, u64::from(shown.counts.violated), b',')?;
     print_bool(rt, shown.blocked)?;
     print_bool(rt, shown.flag)?;
-    print_quantity(rt, shown.clamp, b',')?;
-    print_number(rt, u64::from(notice_number(shown.notice)), b',')?;
-    print_quantity(rt, shown.leftover, b'\n')
+    print_hundredths(rt, shown.clamp)?;
+    print_number(rt, u64::from(shown.notice), b',')?;
+    print_grains(rt, shown.leftover)
+}
+
+// A row in one line, as the control reader shows it: every field.
+pub fn print_row(rt: &impl Print, row: Row) -> io::Result<()>
+    requires { RowBounds row }
+{
+    print_control(rt, readers::control(row))
 }
 
 // A row in one line, as the trader's reader shows it: `none`, or the seven fields.
@@ -107,10 +129,10 @@ pub fn print_for_trader(rt: &impl Print, row: Row) -> io::Result<()>
     print_number(rt, u64::from(shown.n), b',')?;
     print_number(rt, shown.direction as u64, b',')?;
     print_bool(rt, shown.applies)?;
-    print_quantity(rt, shown.amount, b',')?;
-    print_quantity(rt, shown.previous, b',')?;
-    print_quantity(rt, shown.current, b',')?;
-    print_quantity(rt, shown.next, b'\n')
+    print_cents(rt, shown.amount, b',')?;
+    print_cents(rt, shown.previous, b',')?;
+    print_cents(rt, shown.current, b',')?;
+    print_cents(rt, shown.next, b'\n')
 }
 
 // Who reads rows: what is printed of a row for such a reader. Each of the two shows a row by a function of its own.
@@ -120,6 +142,7 @@ pub trait Reader {
 }
 
 // The control room's reader.
+#[derive(Clone, Copy)]
 pub struct Control;
 
 impl Reader for Control {
@@ -129,6 +152,7 @@ impl Reader for Control {
 }
 
 // The trader's reader.
+#[derive(Clone, Copy)]
 pub struct Trader;
 
 impl Reader for Trader {
@@ -167,8 +191,9 @@ fn run_survivors(
         Ok(count) => count as usize,
         Err(why) => return print_refusal(rt, why),
     };
+    let survivors: &[[u8; RECORD]] = records[..RECORD * count].as_chunks().0;
     let mut now = t;
-    for bytes in records.chunks_exact(RECORD).take(count) {
+    for bytes in survivors {
         let answer = tracker::interval(now, bytes);
         if let Err(why) = answer.outcome {
             return print_refusal(rt, why);
@@ -190,9 +215,35 @@ pub fn print_header(rt: &impl Print) -> io::Result<()> {
     rt.write_all(b"unbound,violated,blocked,flag,clamp,notice,leftover\n")
 }
 
+// What an opening answered, and the surviving records of a journal after it: all rows, as a reader shows them, or a refusal.
+pub fn print_opened(
+    rt: &impl Print,
+    opened: Answer,
+    journal: &[u8],
+    reader: &impl Reader,
+) -> io::Result<()>
+    requires { Came opened.tracker }
+{
+    match opened.outcome {
+        Ok(()) => run_survivors(rt, opened.tracker, journal, reader),
+        Err(why) => print_refusal(rt, why),
+    }
+}
+
+// What a read finds in a journal: a refusal is printed.
+pub fn print_found(rt: &impl Print, journal: &[u8]) -> io::Result<Result<Contents, Refusal>>
+    ensures { IfOk result (λ found. found ≡ read_of journal.now) }
+{
+    let found = journal::read(journal);
+    if let Err(why) = found {
+        print_refusal(rt, why)?;
+    }
+    Ok(found)
+}
+
 // All eight rows after each interval of a journal, on the tracker that is opened at its first n, or a refusal. The caller says how the tracker
 // is opened at that number, and who reads.
-pub fn print_opened<O: Fn(u32) -> Answer>(
+pub fn print_opened_at<O: Fn(u32) -> Answer>(
     rt: &impl Print,
     journal: &[u8],
     opened_at: O,
@@ -201,23 +252,17 @@ pub fn print_opened<O: Fn(u32) -> Answer>(
     requires opens { (held : Contents) → read_of journal.now ≡ Ok held → O.pre opened_at held.first }
     requires came { (held : Contents) (opened : Answer) → read_of journal.now ≡ Ok held → O.post opened_at held.first opened → Came opened.tracker }
 {
-    let contents = match journal::read(journal) {
-        Ok(contents) => contents,
-        Err(why) => return print_refusal(rt, why),
-    };
-    if contents.count == 0 {
-        return Ok(());
-    }
-    let opened = opened_at(contents.first);
-    match opened.outcome {
-        Ok(()) => run_survivors(rt, opened.tracker, journal, reader),
-        Err(why) => print_refusal(rt, why),
+    match print_found(rt, journal)? {
+        Ok(contents) if contents.count != 0 => {
+            print_opened(rt, opened_at(contents.first), journal, reader)
+        }
+        _ => Ok(()),
     }
 }
 
 // The same, opened as clampday opens a journal.
 pub fn print_journal(rt: &impl Print, journal: &[u8], reader: &impl Reader) -> io::Result<()> {
-    print_opened(rt, journal, |first| tracker::open(first, [500; 6]), reader)
+    print_opened_at(rt, journal, |first| tracker::open(first, [500; 6]), reader)
 }
 
 // The length of settings in bytes: 44 i32.

@@ -106,7 +106,7 @@ row_of_zeros n d flag clamp = record {
   blocked = false;
   flag = flag;
   clamp = clamp;
-  notice = NoNotice;
+  notice = 0;
   leftover = grains (pos 0);
 }
 

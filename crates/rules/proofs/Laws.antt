@@ -19,8 +19,6 @@ use Rattle.units.specs.declared.Hundredths.{Hundredths}
 use Rattle.units.specs.Units.{cents, ◌+ᶜ◌, lower_of_zero, ◌+ʰ◌, grains, ◌+ᵍ◌}
 use Rattle.rules.specs.declared.Status.{Status}
 use Rattle.rules.specs.declared.Status.TheVariants.{Unbound, Bound, Violated}
-use Rattle.rules.specs.declared.Region.{Region}
-use Rattle.rules.specs.declared.Region.TheVariants.{Nsw1, Qld1, Sa1, Vic1}
 use Rattle.rules.specs.declared.Line.{Line}
 use Rattle.rules.specs.declared.Residue.{Residue}
 use Rattle.rules.specs.declared.Event.{Event}
@@ -30,9 +28,9 @@ use Rattle.rules.specs.declared.Counts.{Counts}
 use Rattle.rules.specs.declared.Direction.{Direction}
 use Rattle.rules.specs.declared.Settings.{Settings}
 use Rattle.rules.specs.Market.{corridor_of, reverse, of_directions}
-use Rattle.rules.specs.Residue.{grains_of, in_cents, no_residue, price, line, corridor_grains, corridor_flow, residue_of, along}
+use Rattle.rules.specs.Residue.{grains_of, in_cents, no_residue, line, corridor_grains, corridor_flow, residue_of, along}
 use Rattle.rules.specs.Interval.{half_hour, place, clears_at, rule1, rule2, flag_of, next_of, held, rule6, sums_after, managed_after, counts_after, suspended_after}
-use Rattle.rules.specs.Record.{record_number, reviewed, operating, present, status, blocked, prices, lines, pre_dispatch_prices, pre_dispatch_lines, residue, pre_dispatch_residue, flag, next}
+use Rattle.rules.specs.Record.{record_number, reviewed, operating, present, status_number, status, blocked, prices, lines, pre_dispatch_prices, pre_dispatch_lines, residue, pre_dispatch_residue, flag, next}
 
 -- ---- Interval n = 6h+q, q from 0 to 5.
 pub half_hours : (n : ℕ) → (n ≡ 6 * half_hour n + place n) × (place n < 6)
@@ -55,6 +53,14 @@ states_in x = of_directions (λ d. let b = replicate (5 + d) 0 ++ (x ∷ []) in 
 pub status_bits : map states_in (0 ∷ 1 ∷ 2 ∷ 4 ∷ 5 ∷ 6 ∷ [])
     ≡ map (replicate 8) ((Unbound, false) ∷ (Bound, false) ∷ (Violated, false) ∷ (Unbound, true) ∷ (Bound, true) ∷ (Violated, true) ∷ [])
 status_bits = refl
+
+-- The same by the status's number.
+abbrev numbers_in : ℕ → List (ℕ × Bool)
+numbers_in x = of_directions (λ d. let b = replicate (5 + d) 0 ++ (x ∷ []) in (status_number b d, blocked b d))
+
+pub status_number_bits : map numbers_in (0 ∷ 1 ∷ 2 ∷ 4 ∷ 5 ∷ 6 ∷ [])
+    ≡ map (replicate 8) ((0, false) ∷ (1, false) ∷ (2, false) ∷ (0, true) ∷ (1, true) ∷ (2, true) ∷ [])
+status_number_bits = refl
 
 -- ---- the loop flag
 -- 1 for directions 0 and 1, always;
@@ -188,27 +194,27 @@ pub direction_to_from : (c : ℕ) → (corridor_of (2 * c + 1) ≡ c) × (revers
 direction_to_from c = (omega arith, eq-eqb ((2 * c + 1) % 2) 1 (omega arith))
 
 module _ (prices : List Cents) (shares : List ℕ) (lines : List Line) where
-  -- The grains of physical interconnector i between two regions of the four: P is the To price, Q the From price.
-  abbrev pub grains_at : Region → Region → ℕ → Grains
-  grains_at from to i = grains_of (price prices shares lines to) (price prices shares lines from) (get_or shares i 0) (line prices shares lines i)
+  -- The grains of physical interconnector i between two regions by their numbers (NSW1 0, QLD1 1, SA1 2, VIC1 3): P is the To price, Q the From price.
+  abbrev pub grains_at : ℕ → ℕ → ℕ → Grains
+  grains_at from to i = grains_of (get_or prices to (cents (pos 0))) (get_or prices from (cents (pos 0))) (get_or shares i 0) (line prices shares lines i)
 
   abbrev pub a_at : ℕ → Hundredths
   a_at i = (line prices shares lines i).a
 
   -- Grains are summed over a corridor, and so is a: NSW1 to QLD1 (physical 0, 1);
-  pub NSW1-to-QLD1 : (corridor_grains prices shares lines 0 ≡ grains_at Nsw1 Qld1 0 +ᵍ grains_at Nsw1 Qld1 1) × (corridor_flow prices shares lines 0 ≡ a_at 0 +ʰ a_at 1)
+  pub NSW1-to-QLD1 : (corridor_grains prices shares lines 0 ≡ grains_at 0 1 0 +ᵍ grains_at 0 1 1) × (corridor_flow prices shares lines 0 ≡ a_at 0 +ʰ a_at 1)
   NSW1-to-QLD1 = (simp +ℤ_idl, simp +ℤ_idl)
 
   -- VIC1 to NSW1 (2);
-  pub VIC1-to-NSW1 : (corridor_grains prices shares lines 1 ≡ grains_at Vic1 Nsw1 2) × (corridor_flow prices shares lines 1 ≡ a_at 2)
+  pub VIC1-to-NSW1 : (corridor_grains prices shares lines 1 ≡ grains_at 3 0 2) × (corridor_flow prices shares lines 1 ≡ a_at 2)
   VIC1-to-NSW1 = (simp +ℤ_idl, simp +ℤ_idl)
 
   -- VIC1 to SA1 (3, 4);
-  pub VIC1-to-SA1 : (corridor_grains prices shares lines 2 ≡ grains_at Vic1 Sa1 3 +ᵍ grains_at Vic1 Sa1 4) × (corridor_flow prices shares lines 2 ≡ a_at 3 +ʰ a_at 4)
+  pub VIC1-to-SA1 : (corridor_grains prices shares lines 2 ≡ grains_at 3 2 3 +ᵍ grains_at 3 2 4) × (corridor_flow prices shares lines 2 ≡ a_at 3 +ʰ a_at 4)
   VIC1-to-SA1 = (simp +ℤ_idl, simp +ℤ_idl)
 
   -- NSW1 to SA1 (5).
-  pub NSW1-to-SA1 : (corridor_grains prices shares lines 3 ≡ grains_at Nsw1 Sa1 5) × (corridor_flow prices shares lines 3 ≡ a_at 5)
+  pub NSW1-to-SA1 : (corridor_grains prices shares lines 3 ≡ grains_at 0 2 5) × (corridor_flow prices shares lines 3 ≡ a_at 5)
   NSW1-to-SA1 = (simp +ℤ_idl, simp +ℤ_idl)
 
   -- Then they are rounded. The corridor's sum of a gives the direction:

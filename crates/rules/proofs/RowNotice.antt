@@ -44,11 +44,11 @@ interval_notice set e s = rule4_number e.n e.flag (reached set.threshold e (amou
 
 -- of the row worked out after it, where es are the intervals before it,
 pub row_notice : (set : Settings) (first d : ℕ) (e : Event) (es : List Event)
-    → let r = worked_row set first d (e ∷ es) in notice_number r.notice ≡ noticed (held (state_after set d es).period) (held r.period)
+    → let r = worked_row set first d (e ∷ es) in r.notice ≡ noticed (held (state_after set d es).period) (held r.period)
 unfolding worked_row state_after step_of
 row_notice set first d e es = interval_notice set e (state_after set d es)
 
 -- and of a row with none: it has no notice, 0.
-pub fresh_notice : (set : Settings) (first d : ℕ) → notice_number (worked_row set first d []).notice ≡ 0
+pub fresh_notice : (set : Settings) (first d : ℕ) → (worked_row set first d []).notice ≡ 0
 unfolding worked_row
 fresh_notice set first d = refl

@@ -52,12 +52,15 @@ present b = bit 2 (flags b)
 abbrev pub status_byte : List ℕ → ℕ → ℕ
 status_byte b d = byte_at b (5 + d)
 
+abbrev pub status_number : List ℕ → ℕ → ℕ
+status_number b d = status_byte b d % 4
+
 -- (a 3 stands for nothing: such a record is refused)
 abbrev pub status_numbered : ℕ → Status
 status_numbered x = cond (eqb x 0) Unbound (cond (eqb x 2) Violated Bound)
 
 abbrev pub status : List ℕ → ℕ → Status
-status b d = status_numbered (status_byte b d % 4)
+status b d = status_numbered (status_number b d)
 
 abbrev pub blocked : List ℕ → ℕ → Bool
 blocked b d = bit 2 (status_byte b d)

@@ -1,5 +1,5 @@
 -- Document 01, "Record, opening, row, journal": what the calls of the tracker return for every input.
-use Rattle.std.specs.Prelude.{None as NoNotice, Bool, false, not, cond, ℕ, suc, pos, get_or, replicate}
+use Rattle.std.specs.Prelude.{Bool, false, not, cond, ℕ, suc, pos, get_or, replicate}
 use mathlib.Core.List.{List}
 use Rattle.units.specs.declared.Cents.{Cents}
 use Rattle.units.specs.declared.Grains.{Grains}
@@ -14,7 +14,7 @@ use Rattle.rules.specs.declared.RowAnswer.{RowAnswer}
 use Rattle.rules.specs.declared.Settings.{Settings}
 use Rattle.rules.specs.Market.{of_directions}
 use Rattle.rules.specs.Settings.{document01}
-use Rattle.rules.specs.Interval.{no_counts, zeros, fresh, step_of, amount, is_swamped}
+use Rattle.rules.specs.Interval.{no_counts, zeros, fresh, step_of, amount, notice_number, is_swamped}
 use Rattle.rules.specs.Record.{record_number, event_of}
 use Rattle.rules.specs.Refusal.{is_accepted, open_outcome, interval_outcome, row_outcome}
 
@@ -89,7 +89,7 @@ row n d r next blocked flag leftover s = record {
   blocked = blocked;
   flag = flag;
   clamp = s.clamp;
-  notice = s.notice;
+  notice = notice_number s.notice;
   leftover = leftover;
 }
 
@@ -122,7 +122,7 @@ no_row = record {
   blocked = false;
   flag = false;
   clamp = hundredths (pos 0);
-  notice = NoNotice;
+  notice = 0;
   leftover = grains (pos 0);
 }
 

@@ -117,6 +117,13 @@ impl From<Notice> for u8 {
     }
 }
 
+// A row's notice: its number, and 0 where there is none.
+pub fn notice_number(notice: Option<Notice>) -> u8
+    ensures { result ≡ notice_number notice }
+{
+    notice.map_or(0, u8::from)
+}
+
 // What rule 4 leaves: the period, and the notice, if there is one.
 #[derive(Clone, Copy)]
 pub struct Managed {
@@ -171,6 +178,8 @@ pub struct Tracker {
     pub directions: [Direction; 8],
 }
 
+// A row: document 01's list of fields. The notice stands by its number, as document 01 lists it, and not as the state's enum: the readers (N6) take
+// any row, and so one that was kept or sent on, with whatever number it has there.
 #[derive(Clone, Copy, Default)]
 pub struct Row {
     pub n: u32,
@@ -187,7 +196,7 @@ pub struct Row {
     pub blocked: bool,
     pub flag: bool,
     pub clamp: Hundredths,
-    pub notice: Option<Notice>,
+    pub notice: u8,
     pub leftover: Grains,
 }
 

@@ -17,7 +17,7 @@ fn run_case<R: Files + Print>(rt: &R, beside: &str, name: &str) -> io::Result<()
     let mut input = [0u8; LONGEST_JOURNAL];
     let journal = report::read_argument(rt, name, &mut input)?;
     report::print_header(rt)?;
-    report::print_opened(
+    report::print_opened_at(
         rt,
         journal,
         |first| tracker::open_with_settings(first, [500; 6], settings),

@@ -47,7 +47,9 @@ pub use Rattle.rules.specs.Calls.{Call, Interval, Lent, Set, after_call, not_len
 unfoldable pub use Rattle.rules.specs.Calls.{run_calls}
 -- what follows from an opening and records alone: the accepted ones, the awaited number, the history of a direction, its row
 pub use Rattle.rules.specs.declared.Event.{Event}
-pub use Rattle.rules.specs.Record.{event_of}
+pub use Rattle.rules.specs.declared.Status.{Status}
+pub use Rattle.rules.specs.declared.Status.TheVariants.{Unbound, Bound, Violated}
+pub use Rattle.rules.specs.Record.{status_numbered, event_of}
 pub use Rattle.rules.specs.Interval.{fresh}
 pub use Rattle.rules.specs.History.{state_after}
 pub use Rattle.rules.specs.Tracker.{row}

@@ -63,11 +63,14 @@ pub fn open_with_settings(first: u32, shares: [u16; 6], settings: Settings) -> A
     ensures { OpenPromise (opening_with first shares settings) result }
 {
     let outcome = open_outcome(first, shares, settings);
-    let tracker = match outcome {
-        Ok(()) => fresh_tracker(settings, first, shares),
-        Err(_) => fresh_tracker(settings::document01(), 0, [0; 6]),
+    let (settings, first, shares) = match outcome {
+        Ok(()) => (settings, first, shares),
+        Err(_) => (settings::document01(), 0, [0; 6]),
     };
-    Answer { outcome, tracker }
+    Answer {
+        outcome,
+        tracker: fresh_tracker(settings, first, shares),
+    }
 }
 
 // The same with document 01's settings.
@@ -184,7 +187,7 @@ fn row_of(t: &Tracker, d: usize) -> Row
         blocked: s.blocked,
         flag: s.flag,
         clamp: s.clamp,
-        notice: s.notice,
+        notice: rules::notice_number(s.notice),
         leftover: s.leftover,
     }
 }

@@ -12,4 +12,4 @@ pub returns : goal.returns
 unfolding row_of
 returns c =
     let applies : c.ne.result ≡ not (is_swamped (direction_of c.args.t.now c.args.d).clamp) = search rules in
-    rw (applies, c.amount.ensures) refl
+    rw (applies, c.amount.ensures, c.notice_number.ensures) refl
