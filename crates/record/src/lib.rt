@@ -197,6 +197,7 @@ impl Record<'_> {
         self.bytes[STATUS + d] & 3
     }
 
+    // The same as what it stands for.
     pub fn status(&self, d: usize) -> Status
         requires { d < 8 }
         ensures { result ≡ status self.now d }
@@ -204,7 +205,7 @@ impl Record<'_> {
         match self.status_number(d) {
             0 => Status::Unbound,
             2 => Status::Violated,
-            // 1; and 3, of the bytes 3 and 7, which `status_ok` refuses: the specs give it alike.
+            // 1; and 3, of bytes such as 3 and 7, which `status_ok` refuses: the specs give it alike.
             _ => Status::Bound,
         }
     }

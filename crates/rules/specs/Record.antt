@@ -52,6 +52,7 @@ present b = bit 2 (flags b)
 abbrev pub status_byte : List ℕ → ℕ → ℕ
 status_byte b d = byte_at b (5 + d)
 
+-- the status by its number, without the mark of blocked;
 abbrev pub status_number : List ℕ → ℕ → ℕ
 status_number b d = status_byte b d % 4
 
